@@ -11,7 +11,7 @@ use Prim.Native.Nat.{ℕ}
 use lib.Dec.{eqb}
 use borrow.Author.Tests.{eqb-true}
 use Rattle.rules.specs.Basic.{on, Once, clash, eqb-self, on-head, on-more, on-cases}
-use Rattle.rules.specs.Tree.{What, blank, top, binding, wind, binds, Tree, Proper, path, path-top, path-up, path-once, downward}
+use Rattle.rules.specs.Tree.{What, blank, top, binding, wind, binds, Tree, Proper, path, path-top, path-up, path-once, path-through, downward}
 use Rattle.rules.specs.Values.{Cell, Values, decider, deep, enterAll, enter-leave, stored-off, stored-on, Decides, decider-decides, valueBy}
 use Rattle.rules.specs.Store.{Store, Deep, Sound, home}
 use Rattle.rules.specs.Calls.{deciderAt, valueAt, look-right}
@@ -124,19 +124,6 @@ module _ (s : Store) (ok : Sound s) (d d′ : Deep) (m : Means s d) (m′ : Mean
       by-mode n x b false q = sym (m .out-stores-own n x b q) ∙ m′ .out-stores-own n x b q
 
 -- ---- and `home` is it
--- a path through n is some nodes, n, and the path of n's parent
-path-through : (t : Tree) → Proper t → (n p : ℕ) → t .up n ≡ some p → (a : ℕ) → on n (path t a) ≡ true → (pre : List ℕ) × (path t a ≡ pre ++ n ∷ path t p)
-path-through t ok n p u = downward t ok (λ a. on n (path t a) ≡ true → (pre : List ℕ) × (path t a ≡ pre ++ n ∷ path t p))
-    (λ a e h. clash h (rw (path-top t ok a e))) up-one
-  where
-    up-one : (a b : ℕ) → t .up a ≡ some b → (on n (path t b) ≡ true → (pre : List ℕ) × (path t b ≡ pre ++ n ∷ path t p))
-        → on n (path t a) ≡ true → (pre : List ℕ) × (path t a ≡ pre ++ n ∷ path t p)
-    up-one a b e ih h = go (on-cases n a (path t b) (rw (path-up t ok a b e) at h))
-      where
-        go : (n ≡ a) ⊎ (on n (path t b) ≡ true) → (pre : List ℕ) × (path t a ≡ pre ++ n ∷ path t p)
-        go (inl q) = ([], rw (← q) (path-up t ok n p u))
-        go (inr q) = let (pre, r) = ih q in (a ∷ pre, path-up t ok a b e ∙ ap (λ (l : List ℕ). a ∷ l) r)
-
 module _ (s : Store) (ok : Sound s) where
   -- what the store holds is its meaning with the focus's path entered
   entered-home : enterAll (s .tree .what) (path (s .tree) (s .focus)) (home s .own) ≡ s .values
@@ -146,7 +133,8 @@ module _ (s : Store) (ok : Sound s) where
   stored-through : (n x p : ℕ) → s .tree .what n ≡ binding x → s .tree .up n ≡ some p → on n (path (s .tree) (s .focus)) ≡ true → s .values .stored n ≡ valueAt (home s) p x
   unfolding home valueAt deciderAt
   stored-through n x p b u h =
-      let (pre, r) = path-through (s .tree) (ok .proper) n p u (s .focus) h in
+      let (pre, q) = path-through (s .tree) (ok .proper) n (s .focus) h in
+      let r : path (s .tree) (s .focus) ≡ pre ++ n ∷ path (s .tree) p = rw (path-up (s .tree) (ok .proper) n p u) at q in
       let once : Once (pre ++ n ∷ path (s .tree) p) = rw r at (path-once (s .tree) (ok .proper) (s .focus)) in
       ap (λ (v : Values). v .stored n) (sym entered-home)
       ∙ ap (λ (l : List ℕ). enterAll (s .tree .what) l (home s .own) .stored n) r
