@@ -11,7 +11,7 @@ use native.Mathlib.Nat.{le-refl}
 use native.Mathlib.Omega.{arith}
 use lib.Dec.{eqb, leb}
 use borrow.Author.Tests.{eqb-true, eqb-false, ne-eqb, leb-true, leb-false}
-use Rattle.rules.specs.Basic.{clash, eqb-self, test}
+use Rattle.rules.specs.Basic.{clash, eqb-self, some≢none}
 
 -- ---- document 01's numbers; 0 is done
 abbrev pub setup : ℕ
@@ -121,3 +121,13 @@ lowest-one rs (some m) (some n) h k = ap some (omega (arith, h .1 n (k .0), k .1
 
 pub lowest-only : (rs : List Row) (o : Option ℕ) → Lowest rs o → o ≡ lowest rs
 lowest-only rs o h = lowest-one rs o (lowest rs) h (lowest-right rs)
+
+-- where nothing is given, no row applies
+pub none-given : (r : Row) (rs : List Row) → lowest (r ∷ rs) ≡ none → (r .applies ≡ false) × (lowest rs ≡ none)
+unfolding lowest
+none-given r rs h = go (r .applies) refl (lowest rs) h
+  where
+    go : (b : Bool) → r .applies ≡ b → (o : Option ℕ) → lower b (r .number) o ≡ none → (r .applies ≡ false) × (o ≡ none)
+    go false e o k = (e, k)
+    go true e none k = some≢none refl k
+    go true e (some m) k = some≢none refl k
