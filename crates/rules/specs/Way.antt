@@ -14,9 +14,9 @@ use lib.ListN.{length, length-append}
 use Rattle.rules.specs.Basic.{on, Once, clash, some≢none, on-head, on-tail, on-more}
 use Rattle.rules.specs.Apart.{apart, apart-self, apart-within, apart-before, on-append}
 use Rattle.rules.specs.Tree.{blank, Tree, Proper, path, path-top, path-up, path-once, path-through, off-parent, downward}
-use Rattle.rules.specs.Store.{Store, Sound, goto, goto-sound, goto-goto, goto-tree, goto-focus}
+use Rattle.rules.specs.Store.{Store, Sound, leave, leaveTo, enter, leave-at, leave-sound, enter-sound, goto, goto-sound, goto-goto, goto-tree, goto-focus}
 use Rattle.rules.specs.Far.{far, Chain, here, rise, sink, far-least, far-lift, far-self, far-sym}
-use Rattle.rules.specs.Moves.{Move, left, entered, routeOf, route, route-left, route-length, Moves, moves-chain, moves-tree, moves-sound, Event, trace, trace-append}
+use Rattle.rules.specs.Moves.{Move, left, entered, routeOf, route, route-left, route-length, Moves, done, move, moves-chain, moves-tree, moves-sound, Event, trace, trace-append}
 use Rattle.rules.specs.Walk.{goto-moves}
 
 -- m lies on the way from f to l: going there first is no detour
@@ -122,6 +122,10 @@ module _ (t : Tree) (ok : Proper t) where
   far-triangle f m l mf mm ml =
       omega (arith, far-least t ok (chain-append (far-chain t ok (far t f m) f m mf mm refl) (far-chain t ok (far t m l) m l mm ml refl)))
 
+  -- for any two environments: there is a chain of steps as long as their distance, and none is shorter
+  pub far-distance : (a b : ℕ) → t .what a ≢ blank → t .what b ≢ blank → Chain t a b (far t a b) × ((n : ℕ) → Chain t a b n → far t a b ≤ n)
+  far-distance a b ma mb = (far-chain t ok (far t a b) a b ma mb refl, λ n c. far-least t ok c)
+
   -- ---- the route by way of m
   route-self : (m : ℕ) → route t m m ≡ []
   unfolding route
@@ -168,6 +172,58 @@ module _ (t : Tree) (ok : Proper t) where
               let first : route t f l ≡ entered c ∷ route t c l = enter-first t ok c f l e q in
               join c (entered c) r first (ih c mc mm ml (omega (arith, first-far t ok f m c (entered c) r))
               (omega (arith, first-far t ok f m c (entered c) r, first-far t ok f l c (entered c) first)))
+
+-- ---- no other moves are as few: moves as many as the distance are the route
+pub moves-forced : {s s′ : Store} {ms : List Move} → Moves s ms s′ → Sound s → length ms ≡ far (s .tree) (s .focus) (s′ .focus)
+    → ms ≡ route (s .tree) (s .focus) (s′ .focus)
+moves-forced (done {s = s}) ok h = sym (route-self (s .tree) (ok .proper) (s .focus))
+moves-forced (move {s = s} {s′ = s′} {m = left n} {ms = ms} h r) ok k = go (s .tree .up (s .focus)) refl (moves-forced r) (moves-chain r)
+  where
+    f : ℕ
+    f = s .focus
+
+    l : ℕ
+    l = s′ .focus
+
+    go : (o : Option ℕ) → s .tree .up f ≡ o
+        → (Sound (leave s) → length ms ≡ far (leave s .tree) (leave s .focus) l → ms ≡ route (leave s .tree) (leave s .focus) l)
+        → Chain (leave s .tree) (leave s .focus) l (length ms) → left n ∷ ms ≡ route (s .tree) f l
+    go none e ih c = absurd (h .1 (rw (h .0) e))
+    go (some p) e ih c = off (on f (path (s .tree) l)) refl
+      where
+        ih-p : Sound (leaveTo p s) → length ms ≡ far (s .tree) p l → ms ≡ route (s .tree) p l
+        ih-p = rw (leave-at p s e) at ih
+
+        near : far (s .tree) p l ≤ length ms
+        near = far-least (s .tree) (ok .proper) (rw (leave-at p s e) at c)
+
+        off : (b : Bool) → on f (path (s .tree) l) ≡ b → left n ∷ ms ≡ route (s .tree) f l
+        off true q = absurd (omega (arith, k, near, first-far (s .tree) (ok .proper) p l f (entered f) (enter-first (s .tree) (ok .proper) f p l e q)))
+        off false q =
+            let first : route (s .tree) f l ≡ left f ∷ route (s .tree) p l = leave-first (s .tree) (ok .proper) f p l e q in
+            let rest : ms ≡ route (s .tree) p l = ih-p (leave-sound s ok p e) (omega (arith, k, first-far (s .tree) (ok .proper) f l p (left f) first)) in
+            rw (h .0) (ap (λ (v : List Move). left f ∷ v) rest ∙ sym first)
+moves-forced (move {s = s} {s′ = s′} {m = entered c} {ms = ms} h r) ok k = off (on c (path (s .tree) (s′ .focus))) refl (moves-forced r)
+  where
+    f : ℕ
+    f = s .focus
+
+    l : ℕ
+    l = s′ .focus
+
+    made : s .tree .what c ≢ blank
+    made = made-child (s .tree) (ok .proper) c f h
+
+    near : far (s .tree) c l ≤ length ms
+    near = far-least (s .tree) (ok .proper) (moves-chain r)
+
+    off : (b : Bool) → on c (path (s .tree) l) ≡ b → (Sound (enter c s) → length ms ≡ far (s .tree) c l → ms ≡ route (s .tree) c l)
+        → entered c ∷ ms ≡ route (s .tree) f l
+    off false q ih = absurd (omega (arith, k, near, first-far (s .tree) (ok .proper) c l f (left c) (leave-first (s .tree) (ok .proper) c f l h q)))
+    off true q ih =
+        let first : route (s .tree) f l ≡ entered c ∷ route (s .tree) c l = enter-first (s .tree) (ok .proper) c f l h q in
+        let rest : ms ≡ route (s .tree) c l = ih (enter-sound s ok c h made) (omega (arith, k, first-far (s .tree) (ok .proper) f l c (entered c) first)) in
+        ap (λ (v : List Move). entered c ∷ v) rest ∙ sym first
 
 -- ---- the switch by way of m
 pub record ByWay (s : Store) (m l : ℕ) : Type 0 where
