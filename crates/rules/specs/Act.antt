@@ -187,3 +187,13 @@ outcome none a es before after = record { answer = a; events = es; after = after
 
 unfoldable pub act : Size → ℕ → Call → Deep → Outcome Deep
 act z room c d = outcome (lowest (rows z room c (shown d))) (answerOf z c (shown d)) (eventsOf c (shown d)) d (changed z c d)
+
+-- calls one after the other, each on what the last one left: their answers and events
+pub record Line : Type 0 where
+  pub answer : Answer
+  pub events : List Event
+
+unfoldable pub run : Size → ℕ → List Call → Deep → List Line
+run z room [] d = []
+run z room (c ∷ cs) d =
+    record { answer = act z room c d .answer; events = act z room c d .events } ∷ run z room cs (act z room c d .after)
