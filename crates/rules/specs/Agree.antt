@@ -3,24 +3,23 @@
 -- Assumes nothing.
 use mathlib.Core.Path.{_≡_, refl, sym, ap, _∙_, fun-ext}
 use mathlib.Core.Logic.{_≢_}
-use mathlib.Core.Bool.{Bool, true, false, not}
+use mathlib.Core.Bool.{true, false}
 use mathlib.Core.Option.{Option, none, some}
-use mathlib.Core.List.{List, [], _∷_}
+use mathlib.Core.List.{List}
 use Prim.Native.Nat.{ℕ, suc, _≤_, _<_}
 use native.Mathlib.Nat.{le-refl}
 use native.Mathlib.Omega.{arith}
 use native.Mathlib.Decide.{ℕ-discrete, decLt}
-use lib.Dec.{eqb, ltb, leb}
 use borrow.Author.Tests.{eqb-false, eq-eqb, ne-eqb, not-false}
-use Rattle.rules.specs.Basic.{upd, upd-same, upd-other, clash, some≢none}
+use Rattle.rules.specs.Basic.{upd, upd-same, upd-other, clash}
 use Rattle.rules.specs.Tree.{What, blank, top, binding, Tree, Proper}
 use Rattle.rules.specs.Values.{Cell, unbound, value}
-use Rattle.rules.specs.Store.{Store, Deep, Sound, home, goto as switch, goto-sound, goto-tree, home-goto, moveTo}
+use Rattle.rules.specs.Store.{Store, Deep, Sound, home, goto as switch, goto-sound, goto-tree, home-goto}
 use Rattle.rules.specs.Moves.{Event, parentOf}
 use Rattle.rules.specs.Grow.{grow, Growable}
-use Rattle.rules.specs.Calls.{valueAt, peek as peekAt, look-right, peek-shows, setCell, set-sound, home-set, make, makeDeep, make-sound, home-make, openTree}
-use Rattle.rules.specs.Modes.{count, count-le, count-below}
-use Rattle.rules.specs.Refusals.{Row, lowest, none-given}
+use Rattle.rules.specs.Calls.{peek as peekAt, look-right, peek-shows, setCell, set-sound, home-set, make, makeDeep, make-sound, home-make, openTree}
+use Rattle.rules.specs.Modes.{count-le, count-below}
+use Rattle.rules.specs.Refusals.{lowest, none-given}
 use Rattle.rules.specs.Act.{Call, bind, wind, look, set, here, goto, back, peek, Size, notBlank, isMade, nextNumber, isFull, Shown, shown, backTo, isNone, rows, eventsOf, Answer, answerOf, changed, Outcome, outcome, act}
 
 -- ---- the calls on a store as it is held

@@ -1,16 +1,15 @@
 -- The numbers a call can give back (document 01, the table of that name): rows of a number and the test under which it
 -- applies, and "the lowest number that applies", stated once for every call.
 -- Assumes nothing. The order of the rows does not matter, so a later request adds a row anywhere.
-use mathlib.Core.Path.{_≡_, refl, sym, ap, _∙_}
+use mathlib.Core.Path.{_≡_, refl, ap}
 use mathlib.Core.Logic.{_⊎_, inl, inr}
 use mathlib.Core.Bool.{Bool, true, false, _||_, _&&_}
 use mathlib.Core.Option.{Option, none, some}
 use mathlib.Core.List.{List, [], _∷_}
-use Prim.Native.Nat.{ℕ, _≤_, _<_}
-use native.Mathlib.Nat.{le-refl}
+use Prim.Native.Nat.{ℕ, _≤_}
 use native.Mathlib.Omega.{arith}
 use lib.Dec.{eqb, leb}
-use borrow.Author.Tests.{eqb-true, eqb-false, ne-eqb, leb-true, leb-false}
+use borrow.Author.Tests.{eqb-true, leb-true, leb-false}
 use Rattle.rules.specs.Basic.{clash, eqb-self, some≢none}
 
 -- ---- document 01's numbers; 0 is done

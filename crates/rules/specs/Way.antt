@@ -3,20 +3,20 @@
 -- Assumes nothing.
 use mathlib.Core.Path.{_≡_, refl, sym, ap, _∙_, subst₂}
 use mathlib.Core.Logic.{_≢_, _⊎_, inl, inr}
-use mathlib.Core.Bool.{Bool, true, false, _||_, or-true}
+use mathlib.Core.Bool.{Bool, true, false, or-true}
 use mathlib.Core.Option.{Option, none, some}
-use mathlib.Core.List.{List, [], _∷_, _++_, map, reverse, reverse-cons, reverse-append, append-assoc}
+use mathlib.Core.List.{List, [], _∷_, _++_, map, reverse, reverse-append, append-assoc}
 use Prim.Native.Nat.{ℕ, zero, suc, _+_, _≤_}
 use native.Mathlib.Omega.{arith}
 use native.Mathlib.Numerals.{unary-clauses}
 use native.Mathlib.Decide.{ℕ-discrete}
 use lib.ListN.{length, length-append}
 use Rattle.rules.specs.Basic.{on, Once, clash, some≢none, on-head, on-tail, on-more}
-use Rattle.rules.specs.Apart.{apart, apart-self, apart-within, apart-before, on-append}
-use Rattle.rules.specs.Tree.{blank, Tree, Proper, path, path-top, path-up, path-once, path-through, off-parent, downward}
+use Rattle.rules.specs.Apart.{apart-self, apart-within, apart-before, on-append}
+use Rattle.rules.specs.Tree.{blank, Tree, Proper, path, path-top, path-up, path-once, path-through, downward}
 use Rattle.rules.specs.Store.{Store, Sound, leave, leaveTo, enter, leave-at, leave-sound, enter-sound, goto, goto-sound, goto-goto, goto-tree, goto-focus}
-use Rattle.rules.specs.Far.{far, Chain, here, rise, sink, far-least, far-lift, far-self, far-sym}
-use Rattle.rules.specs.Moves.{Move, left, entered, routeOf, route, route-left, route-length, Moves, done, move, moves-chain, moves-tree, moves-sound, Event, trace, trace-append}
+use Rattle.rules.specs.Far.{far, Chain, here, rise, sink, far-least, far-self}
+use Rattle.rules.specs.Moves.{Move, left, entered, routeOf, route, route-left, route-length, Moves, done, move, moves-chain, moves-tree, moves-sound, trace, trace-append}
 use Rattle.rules.specs.Walk.{goto-moves}
 
 -- m lies on the way from f to l: going there first is no detour
