@@ -144,7 +144,7 @@ pub record Agrees (z : Size) (room : ℕ) (c : Call) (s : Store) : Type 0 where
   pub sound : Sound (actOn z room c s .after)
   pub numbers : Numbered z (actOn z room c s .after .tree)
 
-not-blank : (w : What) → notBlank w ≡ true → w ≢ blank
+pub not-blank : (w : What) → notBlank w ≡ true → w ≢ blank
 not-blank w h e = clash h (ap notBlank e)
 
 -- two outcomes that differ only in what they leave
