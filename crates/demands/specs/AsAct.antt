@@ -1,0 +1,178 @@
+-- Each promise implies that the numbers of the answer, the events and the meaning are those of the rules' `act`, at the V and
+-- N of the store and the room of the trace (sound stores; any other is refused). From document 01, "What each call does" and
+-- "The numbers a call can give back". Assumes nothing.
+use mathlib.Core.Path.{_≡_, refl, sym, ap, subst, _∙_}
+use mathlib.Core.Option.{none, some}
+use Prim.Native.Nat.{ℕ, zero, suc, _≤_}
+use native.Mathlib.Omega.{arith}
+use mathlib.Core.List.{List, []}
+use lib.IntN.{ℤ, pos}
+use lib.ListN.{length}
+use Rattle.rules.specs.Tree.{wind}
+use Rattle.rules.specs.Values.{Cell, value}
+use Rattle.rules.specs.Store as store
+use Rattle.rules.specs.Store.{Deep, home}
+use Rattle.rules.specs.Far.{far}
+use Rattle.rules.specs.Moves.{moves-tree, Event}
+use Rattle.rules.specs.Refusals as refusals
+use Rattle.rules.specs.Refusals.{lowest}
+use Rattle.rules.specs.Act.{Call, Size, shown, backTo, rows, eventsOf, codeOf, outOf, movesOf, answerOf, changed, Outcome, outcome, act, refused, valueIn}
+use Rattle.rules.specs.Effects.{SameDeep, Effect, act-effect, effect-determined}
+use Rattle.rules.specs.Demands.{switched-count, switched-events}
+use Rattle.layout.specs.Records.{focus}
+use Rattle.layout.specs.Fields.{fieldsOf}
+use Rattle.layout.specs.View.{viewF, view}
+use Rattle.layout.specs.Sound.{Sound}
+use Rattle.layout.specs.Becomes.{Kept}
+use Rattle.layout.specs.Events.{eventsB, told}
+use Rattle.layout.specs.SoundLaws.{sound-view}
+use Rattle.layout.specs.WalkLaws.{kept-self, focus-made}
+use Rattle.layout.specs.Events.{eventsTo}
+use Rattle.store.specs.Answers.{Numbers}
+use Rattle.store.specs.Tables as tables
+use Rattle.store.specs.Promises.{meaning, at, roomFor, parentAt, SwitchDone}
+use Rattle.demands.specs.Calls.{table, Done, Called, Code, is-done, is-refused, code-of, sound-lowest, done-leaves}
+use Rattle.demands.specs.Tests.{sizeAt, refusedAs, lowest-says, next-made, seen-numbered, table-says}
+use Rattle.demands.specs.Plain.{deep-one, plain-meaning, plain-changed, ranks-changed}
+
+-- what `act` does to the meaning of s, with room for as many events as t has
+unfoldable pub acted : Call → List ℕ → List ℕ → Outcome Deep
+acted c s t = act (sizeAt s) (roomFor t) c (meaning s)
+
+-- document 01's numbers for it
+unfoldable pub numbersOf : Outcome Deep → Numbers
+numbersOf r = record { code = codeOf (r .answer); out = outOf (r .answer); moves = movesOf (r .answer); events = length (r .events) }
+
+pub record AsAct (c : Call) (s t s′ t′ : List ℕ) (n : Numbers) : Type 0 where
+  pub answer : n ≡ numbersOf (acted c s t)
+  pub events : t′ ≡ told (acted c s t .events) t
+  pub meaning : meaning s′ ≡ acted c s t .after
+  pub sound : Sound s′
+  pub kept : Kept s s′
+
+-- ---- what a done call changes is the rules' effect of it
+module _ (s t s′ t′ : List ℕ) (n : Numbers) (ok : Sound s) where
+  pub done-effect : (c : Call) → Done c s t s′ t′ n → Effect (sizeAt s) c (meaning s) (meaning s′)
+  unfolding meaning home at shown backTo parentAt view viewF fieldsOf
+  done-effect (Call.bind x v) (d, e) =
+      rw (next-made s ok) (d .new, ap (λ (a : ℕ). at s′ a x) (d .new .focus) ∙ d .own, λ y h. ap (λ (a : ℕ). at s′ a y) (d .new .focus) ∙ d .rest y h)
+  done-effect (Call.wind p q) d = rw (next-made s ok) (d .new, λ y. ap (λ (a : ℕ). at s′ a y) (d .new .focus) ∙ d .rest y)
+  done-effect (Call.look x) (d, e, f) = ap meaning e
+  done-effect (Call.set x v) (d, e) = d .effect
+  done-effect Call.here (d, e, f) = ap meaning e
+  done-effect (Call.goto a) d = record { tree = moves-tree (d .switched .moves); focus = d .switched .arrives; values = d .switched .alters-nothing }
+  done-effect Call.back d = record { tree = moves-tree (d .switched .moves); focus = d .switched .arrives; values = d .switched .alters-nothing }
+  done-effect (Call.peek a x) (d, e, f) = ap meaning e
+
+-- ---- all of it
+told-none : (t : List ℕ) → told [] t ≡ t
+unfolding told eventsB
+told-none t = refl
+
+-- what `act` gives to a call that k refuses, and to one that nothing refuses
+abbrev refusedBy : ℕ → List ℕ → Outcome Deep
+refusedBy k s = record { answer = refused k; events = []; after = meaning s }
+
+abbrev unrefused : Call → List ℕ → Outcome Deep
+unrefused c s = record { answer = answerOf (sizeAt s) c (shown (meaning s)); events = eventsOf c (shown (meaning s)); after = changed (sizeAt s) c (meaning s) }
+
+module _ (c : Call) (s t : List ℕ) where
+  acted-refused : (k : ℕ) → lowest (rows (sizeAt s) (roomFor t) c (shown (meaning s))) ≡ some k → acted c s t ≡ refusedBy k s
+  unfolding acted act outcome
+  acted-refused k e = rw e
+
+  acted-done : lowest (rows (sizeAt s) (roomFor t) c (shown (meaning s))) ≡ none → acted c s t ≡ unrefused c s
+  unfolding acted act outcome
+  acted-done e = rw e
+
+-- the numbers and the events of a done call
+module _ (s t s′ t′ : List ℕ) (n : Numbers) (ok : Sound s) where
+  abbrev numbered-as : ℤ → ℕ → ℕ → Numbers
+  numbered-as o m e = record { code = 0; out = o; moves = m; events = e }
+
+  switch-numbers : (a : ℕ) (d : SwitchDone s t a s′ t′ n) → n ≡ numbered-as (pos a) (far (view s .tree) (focus s) a) (length (eventsTo s a))
+  unfolding view viewF fieldsOf
+  switch-numbers a d =
+      let w = d .switched in
+      d .answer
+      ∙ (λ i. numbered-as (pos a) (switched-count (view s) (view s′) a (d .moves) (length (d .moves)) (d .events) (sound-view s ok) w i)
+      (length (switched-events (view s) (view s′) a (d .moves) (length (d .moves)) (d .events) (sound-view s ok) w i)))
+
+  switch-events : (a : ℕ) (d : SwitchDone s t a s′ t′ n) → t′ ≡ told (eventsTo s a) t
+  unfolding view viewF fieldsOf
+  switch-events a d =
+      d .trace ∙ ap (λ (es : List Event). told es t) (switched-events (view s) (view s′) a (d .moves) (length (d .moves)) (d .events) (sound-view s ok) (d .switched))
+
+  value-numbers : (c : Cell) → (v : ℤ) × (n ≡ numbered-as v 0 0) × (c ≡ value v) → n ≡ numbered-as (valueIn c) 0 0
+  value-numbers c (v, e, f) = rw f e
+
+  done-numbers : (c : Call) → Done c s t s′ t′ n → n ≡ numbersOf (unrefused c s)
+  unfolding numbersOf answerOf eventsOf shown backTo meaning home at parentAt view viewF fieldsOf
+  done-numbers (Call.bind x v) (d, e) = d .answer ∙ ap (λ (m : ℕ). numbered-as (pos m) 0 0) (sym (next-made s ok))
+  done-numbers (Call.wind p q) d = d .answer ∙ ap (λ (m : ℕ). numbered-as (pos m) 0 1) (sym (next-made s ok))
+  done-numbers (Call.look x) (d, e, f) = value-numbers (at s (focus s) x) d
+  done-numbers (Call.set x v) (d, e) = d .answer
+  done-numbers Call.here (d, e, f) = d
+  done-numbers (Call.goto a) d = switch-numbers a d
+  done-numbers Call.back d = switch-numbers (parentAt s) d
+  done-numbers (Call.peek a x) (d, e, f) = value-numbers (at s a x) d
+
+  done-trace : (c : Call) → Done c s t s′ t′ n → t′ ≡ told (eventsOf c (shown (meaning s))) t
+  unfolding eventsOf shown backTo meaning home parentAt view viewF fieldsOf
+  done-trace (Call.bind x v) (d, e) = e ∙ sym (told-none t)
+  done-trace (Call.wind p q) d = d .trace
+  done-trace (Call.look x) (d, e, f) = f ∙ sym (told-none t)
+  done-trace (Call.set x v) (d, e) = e ∙ sym (told-none t)
+  done-trace Call.here (d, e, f) = f ∙ sym (told-none t)
+  done-trace (Call.goto a) d = switch-events a d
+  done-trace Call.back d = switch-events (parentAt s) d
+  done-trace (Call.peek a x) (d, e, f) = f ∙ sym (told-none t)
+
+  -- the meaning
+  done-meaning : (c : Call) → lowest (rows (sizeAt s) (roomFor t) c (shown (meaning s))) ≡ none → Done c s t s′ t′ n → meaning s′ ≡ changed (sizeAt s) c (meaning s)
+  unfolding meaning home acted
+  done-meaning c none-applies d =
+      let z : Size = sizeAt s in
+      let w = sound-view s ok in
+      let acts : Effect z c (meaning s) (changed z c (meaning s)) =
+      subst (λ (o : Outcome Deep). Effect z c (meaning s) (o .after)) (acted-done c s t none-applies) (act-effect z (meaning s) (w .proper) (w .focus-made) (seen-numbered s ok) (roomFor t) c none-applies) in
+      let same : SameDeep (meaning s′) (changed z c (meaning s)) =
+      effect-determined z c (meaning s) (meaning s′) (changed z c (meaning s)) (done-effect s t s′ t′ n ok c d) acts in
+      let ok′ : Sound s′ = done-leaves c s t s′ t′ n ok d .0 in
+      deep-one s′ ok′ (changed z c (meaning s)) same (ranks-changed z (meaning s) (plain-meaning s ok) c (seen-numbered s ok .ranks))
+      (plain-meaning s′ ok′) (plain-changed z (meaning s) (plain-meaning s ok) c)
+
+pub as-act : (c : Call) (s t s′ t′ : List ℕ) (n : Numbers) → Sound s → Called c s t s′ t′ n → AsAct c s t s′ t′ n
+unfolding numbersOf
+as-act c s t s′ t′ n ok p = go (code-of n)
+  where
+    low : lowest (rows (sizeAt s) (roomFor t) c (shown (meaning s))) ≡ refusedAs (n .code)
+    low = lowest-says (table c s t) (rows (sizeAt s) (roomFor t) c (shown (meaning s))) (table-says s ok t c) (n .code) (sound-lowest ok (p .lowest))
+
+    is-some : (k : ℕ) → 1 ≤ k → refusedAs k ≡ some k
+    is-some zero h = absurd (omega arith)
+    is-some (suc k) h = refl
+
+    go : Code n → AsAct c s t s′ t′ n
+    go (is-refused h) =
+        let (e, (same, kept)) = p .refused h in
+        let r : acted c s t ≡ refusedBy (n .code) s = acted-refused c s t (n .code) (low ∙ is-some (n .code) h) in
+        record {
+          answer = e ∙ ap numbersOf (sym r);
+          events = kept ∙ sym (told-none t) ∙ ap (λ (o : Outcome Deep). told (o .events) t) (sym r);
+          meaning = ap meaning same ∙ ap (λ (o : Outcome Deep). o .after) (sym r);
+          sound = rw same ok;
+          kept = rw same (kept-self s);
+        }
+    go (is-done e) =
+        let d : Done c s t s′ t′ n = p .done e in
+        let none-applies = low ∙ ap refusedAs e in
+        let r : acted c s t ≡ unrefused c s = acted-done c s t none-applies in
+        let (ok′, kept) = done-leaves c s t s′ t′ n ok d in
+        record {
+          answer = done-numbers s t s′ t′ n ok c d ∙ ap numbersOf (sym r);
+          events = done-trace s t s′ t′ n ok c d ∙ ap (λ (o : Outcome Deep). told (o .events) t) (sym r);
+          meaning = done-meaning s t s′ t′ n ok c none-applies d ∙ ap (λ (o : Outcome Deep). o .after) (sym r);
+          sound = ok′;
+          kept = kept;
+        }

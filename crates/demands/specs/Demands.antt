@@ -1,0 +1,320 @@
+-- The owner's three demands, over the bytes of store and trace: in the owner's order and words, each from the promises that
+-- the nine calls keep (crate `store`, Promises). s and t are the store and the trace at entry, s′ and t′ at exit, n the
+-- numbers of the answer; `Promised c` is the promise of the call c. That a call ends for all arguments and all memory lent is
+-- what its promise, which asks for nothing, is proved of. The statements come first; their proofs are below.
+-- From document 01. Assumes that lent memory holds bytes.
+use mathlib.Core.Path.{_≡_, sym, ap, _∙_}
+use mathlib.Core.Logic.{_⊎_, inl, inr, _≢_}
+use Prim.Native.Nat.{ℕ, _≤_, _<_}
+use native.Mathlib.Omega.{arith}
+use mathlib.Core.List.{List, [], _∷_, _++_, map, reverse}
+use lib.IntN.{ℤ, pos}
+use lib.ListN.{length, drop}
+use Rattle.rules.specs.Apart.{apart}
+use Rattle.rules.specs.Tree.{path}
+use Rattle.rules.specs.Values.{value, Cell, unbound}
+use Rattle.rules.specs.Store.{home}
+use Rattle.rules.specs.Moves.{Move, left, entered, Event, route, trace, trace-order}
+use Rattle.rules.specs.Meaning.{Means, home-means}
+use Rattle.rules.specs.Refusals.{setup, atTop, noValue, damaged}
+use Rattle.rules.specs.Act.{Call}
+use Rattle.rules.specs.Effects.{Effect}
+use Rattle.rules.specs.Demands.{Switched}
+use Rattle.layout.specs.Limits.{sizeOf}
+use Rattle.layout.specs.Records.{vars, room, focus}
+use Rattle.layout.specs.Fields.{fieldsOf}
+use Rattle.layout.specs.View.{viewF, view}
+use Rattle.layout.specs.Sound.{Sound}
+use Rattle.layout.specs.Made.{IsMade}
+use Rattle.layout.specs.Becomes.{Kept}
+use Rattle.layout.specs.Events.{told}
+use Rattle.layout.specs.SoundLaws.{sound-view}
+use Rattle.layout.specs.Same.{Bytes}
+use Rattle.layout.specs.Opening.{topCells}
+use Rattle.store.specs.Answers.{Numbers, refusal}
+use Rattle.store.specs.Tables.{Row, row, Applies, Lowest, from-least}
+use Rattle.store.specs.Promises.{meaning, at, Answers, damagedRow, Openable, Opened, OpenPromise, Told, SwitchDone, parentAt, GotoPromise, BackPromise, LookPromise, PeekPromise}
+use Rattle.demands.specs.Calls.{Promised, table, Done, Called, called, done-sound, Code, is-done, is-refused, code-of, opens, sound-lowest}
+use Rattle.demands.specs.Tests.{sizeAt}
+use Rattle.demands.specs.AsAct.{AsAct, as-act, done-effect}
+use Rattle.demands.specs.NeverRead.{opened-value, above-damaged}
+use Rattle.demands.specs.Held.{Held, Way, switch-held}
+
+-- ==== 1. Every call ends with one of the numbered answers. A refusal comes exactly under its stated condition and changes
+-- no byte.
+-- the conditions of each call, with their numbers: Setup for open, Damaged and the call's own rows for the others
+abbrev pub openConditions : ℕ → ℕ → List ℕ → List ℕ → List Row
+openConditions v n tops s = row setup (Openable v n tops s → ⊥) ∷ []
+
+abbrev pub conditions : Call → List ℕ → List ℕ → List Row
+conditions c s t = damagedRow s ∷ table c s t
+
+pub record Answered (rows : List Row) (n : Numbers) (Unchanged : Type 0) : Type 0 where
+  -- 0, or a number of the store's table (9 is the card program's)
+  pub numbered : n .code ≤ atTop
+  -- 0 exactly where no condition holds, else the lowest number whose condition holds
+  pub exactly : Lowest rows (n .code)
+  -- a refusal answers 0 beside its number, and no byte differs afterwards
+  pub nothing : 1 ≤ n .code → n ≡ refusal (n .code)
+  pub no-byte : 1 ≤ n .code → Unchanged
+
+pub record Demand1 : Type 0 where
+  pub opening : (v k : ℕ) (tops s s′ : List ℕ) (n : Numbers) → OpenPromise v k tops s s′ n → Answered (openConditions v k tops s) n (s′ ≡ s)
+  pub calls : (c : Call) (s t s′ t′ : List ℕ) (n : Numbers) → Promised c s t s′ t′ n → Answered (conditions c s t) n ((s′ ≡ s) × (t′ ≡ t))
+
+-- ==== 2. Opening makes the sound store. From any sound store every call answers and leaves what TR397's deep-binding rule
+-- says, with top values and set as document 01 adds them, and the store stays sound. Cells show the focus, reading from afar
+-- is right in every environment, a switch alters no environment's value of any variable.
+pub record OpensSound (v k : ℕ) (tops s s′ : List ℕ) (n : Numbers) : Type 0 where
+  pub done : n ≡ refusal 0
+  pub sound : Sound s′
+  pub vars : vars s′ ≡ v
+  pub nodes : room s′ ≡ k
+  pub only-top : (a : ℕ) → IsMade s′ a → a ≡ 0
+  pub focus : focus s′ ≡ 0
+  -- every variable has the value of its top cell, and past V there is none
+  pub values : (a x : ℕ) → at s′ a x ≡ topCells v tops x
+  pub rest : (length s′ ≡ length s) × (drop (sizeOf v k) s′ ≡ drop (sizeOf v k) s)
+
+-- what a done call answers: look and peek the deep rule's value, the others the focus that they leave
+abbrev pub Replies : Call → List ℕ → List ℕ → Numbers → Type 0
+Replies (Call.bind x v) s s′ n = n .out ≡ pos (focus s′)
+Replies (Call.wind p q) s s′ n = n .out ≡ pos (focus s′)
+Replies (Call.look x) s s′ n = at s (focus s) x ≡ value (n .out)
+Replies (Call.set x v) s s′ n = n .out ≡ pos (focus s′)
+Replies Call.here s s′ n = n .out ≡ pos (focus s′)
+Replies (Call.goto a) s s′ n = n .out ≡ pos (focus s′)
+Replies Call.back s s′ n = n .out ≡ pos (focus s′)
+Replies (Call.peek a x) s s′ n = at s a x ≡ value (n .out)
+
+pub record ByTheRule (c : Call) (s t s′ t′ : List ℕ) (n : Numbers) : Type 0 where
+  -- the store stays sound, of the same size, and no byte past the size changes
+  pub sound : Sound s′
+  pub kept : Kept s s′
+  -- it is not refused as Damaged
+  pub answers : n .code ≢ damaged
+  -- document 01's three sentences: a binding that is out stores its own value, one that is in the value at its parent, and
+  -- the cells show the focus
+  pub means : Means (view s′) (meaning s′)
+  -- what a done call answers, and what it changes: of every environment the value of every variable, before and after
+  -- (a switch: none)
+  pub replies : n .code ≡ 0 → Replies c s s′ n
+  pub changes : n .code ≡ 0 → Effect (sizeAt s) c (meaning s) (meaning s′)
+  -- all of it, refused or done: the numbers, the events and the meaning are `act`'s
+  pub acts : AsAct c s t s′ t′ n
+
+-- the numbers of a cell that was read: its value, or that it has none
+abbrev pub readAs : Cell → Numbers
+readAs unbound = refusal noValue
+readAs (value v) = record { code = 0; out = v; moves = 0; events = 0 }
+
+pub record Demand2 : Type 0 where
+  pub opening : (v k : ℕ) (tops s s′ : List ℕ) (n : Numbers) → Openable v k tops s → OpenPromise v k tops s s′ n → OpensSound v k tops s s′ n
+  pub calls : (c : Call) (s t s′ t′ : List ℕ) (n : Numbers) → Sound s → Promised c s t s′ t′ n → ByTheRule c s t s′ t′ n
+  -- the cells show the focus: of every variable, look gives the deep rule's value there
+  pub cells : (s : List ℕ) (x : ℕ) (s′ : List ℕ) (n : Numbers) → Sound s → x < vars s → LookPromise s x s′ n → n ≡ readAs (at s (focus s) x)
+  -- reading from afar is right in every environment
+  pub afar : (s : List ℕ) (a x : ℕ) (s′ : List ℕ) (n : Numbers) → Sound s → x < vars s → IsMade s a → PeekPromise s a x s′ n → n ≡ readAs (at s a x)
+  -- a switch alters no environment's value of any variable
+  pub goto : (s t : List ℕ) (a : ℕ) (s′ t′ : List ℕ) (n : Numbers) → GotoPromise s t a s′ t′ n → (b x : ℕ) → at s′ b x ≡ at s b x
+  pub back : (s t s′ t′ : List ℕ) (n : Numbers) → BackPromise s t s′ t′ n → (b x : ℕ) → at s′ b x ≡ at s b x
+
+-- ==== 3. A switch moves exactly the nodes on one path to the top and not on the other's, each once, reports that number, and
+-- no chain of parent-or-child steps is shorter. The trace holds the winds among them, left from the inside out, then entered
+-- from the outside in.
+pub record Walked (s t : List ℕ) (a : ℕ) (s′ t′ : List ℕ) (n : Numbers) : Type 0 where
+  pub moves : List Move
+  pub events : List Event
+  -- the moves lead from the store at entry to the store at exit: exactly those nodes, each once, as many as reported, none fewer
+  pub switched : Switched (view s) (view s′) a moves (n .moves) events
+  -- every store on the way is one sound buffer of this size
+  pub held : Way (Held s) (switched .moves)
+  -- the winds among them, in that order, from the start of the trace, and their number reported; the rest of it as it was
+  pub winds : events
+      ≡ trace (view s .tree) (map left (apart (path (view s .tree) (focus s)) (path (view s .tree) a)))
+      ++ trace (view s .tree) (map entered (reverse (apart (path (view s .tree) a) (path (view s .tree) (focus s)))))
+  pub traced : t′ ≡ told events t
+  pub counted : n .events ≡ length events
+
+pub record Demand3 : Type 0 where
+  pub goto : (s t : List ℕ) (a : ℕ) (s′ t′ : List ℕ) (n : Numbers) → Bytes s → GotoPromise s t a s′ t′ n → n .code ≡ 0 → Walked s t a s′ t′ n
+  pub back : (s t s′ t′ : List ℕ) (n : Numbers) → Bytes s → BackPromise s t s′ t′ n → n .code ≡ 0 → Walked s t (parentAt s) s′ t′ n
+
+-- ==== proofs of 1
+-- every number of a table is one of the store's
+abbrev AtMost : ℕ → List Row → Type 0
+AtMost k [] = Unit {0}
+AtMost k (r ∷ rs) = (r .number ≤ k) × AtMost k rs
+
+applies-at-most : (k : ℕ) (rs : List Row) → AtMost k rs → (n : ℕ) → Applies rs n → n ≤ k
+applies-at-most k [] h n a = absurd a
+applies-at-most k (r ∷ rs) h n (inl (e, w)) = omega (arith, h .0)
+applies-at-most k (r ∷ rs) h n (inr a) = applies-at-most k rs (h .1) n a
+
+table-known : (c : Call) (s t : List ℕ) → AtMost atTop (conditions c s t)
+table-known (Call.bind x v) s t = (omega arith, (omega arith, (omega arith, tt)))
+table-known (Call.wind p q) s t = (omega arith, (omega arith, (omega arith, tt)))
+table-known (Call.look x) s t = (omega arith, (omega arith, (omega arith, tt)))
+table-known (Call.set x v) s t = (omega arith, (omega arith, (omega arith, tt)))
+table-known Call.here s t = (omega arith, tt)
+table-known (Call.goto a) s t = (omega arith, (omega arith, (omega arith, tt)))
+table-known Call.back s t = (omega arith, (omega arith, (omega arith, tt)))
+table-known (Call.peek a x) s t = (omega arith, (omega arith, (omega arith, (omega arith, tt))))
+
+answered : {rows : List Row} {n : Numbers} {Same Done : Type 0} → AtMost atTop rows → Answers rows n Same Done → Answered rows n Same
+answered {rows} {n} known a = record {
+  numbered = go (a .lowest .exact);
+  exactly = a .lowest;
+  nothing = λ h. a .refused h .0;
+  no-byte = λ h. a .refused h .1;
+}
+  where
+    go : (n .code ≡ 0) ⊎ Applies rows (n .code) → n .code ≤ atTop
+    go (inl e) = omega arith
+    go (inr w) = applies-at-most atTop rows known (n .code) w
+
+pub demand-1 : Demand1
+demand-1 = record {
+  opening = λ v k tops s s′ n p. answered (omega arith, tt) (p .answers);
+  calls = λ c s t s′ t′ n p. answered (table-known c s t) (called c s t s′ t′ n p);
+}
+
+-- ==== proofs of 2
+out-is : {n : Numbers} {o : ℤ} {m e : ℕ} → Told n o m e → n .out ≡ o
+out-is h = ap (λ (k : Numbers). k .out) h
+
+done-replies : (c : Call) (s t s′ t′ : List ℕ) (n : Numbers) → Done c s t s′ t′ n → Replies c s s′ n
+unfolding meaning home view viewF fieldsOf
+done-replies (Call.bind x v) s t s′ t′ n (d, e) = out-is (d .answer) ∙ ap pos (sym (d .new .focus))
+done-replies (Call.wind p q) s t s′ t′ n d = out-is (d .answer) ∙ ap pos (sym (d .new .focus))
+done-replies (Call.look x) s t s′ t′ n ((v, e, f), g, h) = f ∙ ap value (sym (out-is e))
+done-replies (Call.set x v) s t s′ t′ n (d, e) = out-is (d .answer) ∙ ap pos (sym (d .effect .focus))
+done-replies Call.here s t s′ t′ n (e, g, h) = out-is e ∙ ap (λ (u : List ℕ). pos (focus u)) (sym g)
+done-replies (Call.goto a) s t s′ t′ n d = out-is (d .answer) ∙ ap pos (sym (d .switched .arrives))
+done-replies Call.back s t s′ t′ n d = out-is (d .answer) ∙ ap pos (sym (d .switched .arrives))
+done-replies (Call.peek a x) s t s′ t′ n ((v, e, f), g, h) = f ∙ ap value (sym (out-is e))
+
+opens-sound : (v k : ℕ) (tops s s′ : List ℕ) (n : Numbers) → Openable v k tops s → OpenPromise v k tops s s′ n → OpensSound v k tops s s′ n
+opens-sound v k tops s s′ n can p =
+    let o : Opened v k tops s s′ n = opens v k tops s s′ n p can in
+    record {
+      done = o .answer;
+      sound = o .sound;
+      vars = o .vars;
+      nodes = o .nodes;
+      only-top = o .only-top;
+      focus = o .focus;
+      values = opened-value v k tops s s′ n o;
+      rest = (o .long, o .past);
+    }
+
+-- a call whose only rows that may apply ask for the value of c
+module _ (c : Cell) (n : Numbers) where
+  read : (v : ℤ) × Told n v 0 0 × (c ≡ value v) → n ≡ readAs c
+  read (v, e, f) = rw f e
+
+  unread : n ≡ refusal (n .code) → (noValue ≡ n .code) × (c ≡ unbound) → n ≡ readAs c
+  unread e (f, g) = rw (g, f) e
+
+looks : (s : List ℕ) (x : ℕ) (s′ : List ℕ) (n : Numbers) → Sound s → x < vars s → LookPromise s x s′ n → n ≡ readAs (at s (focus s) x)
+looks s x s′ n ok known p = go (code-of n)
+  where
+    valued : (n .code ≡ 0) ⊎ Applies (conditions (Call.look x) s []) (n .code) → 1 ≤ n .code → (noValue ≡ n .code) × (at s (focus s) x ≡ unbound)
+    valued (inl e) h = absurd (omega arith)
+    valued (inr (inl (e, bad))) h = absurd (bad ok)
+    valued (inr (inr (inl (e, far)))) h = absurd (omega arith)
+    valued (inr (inr (inr (inl w)))) h = w
+    valued (inr (inr (inr (inr z)))) h = absurd z
+
+    go : Code n → n ≡ readAs (at s (focus s) x)
+    go (is-done e) = read (at s (focus s) x) n (p .answers .done e)
+    go (is-refused h) = unread (at s (focus s) x) n (p .answers .refused h .0) (valued (p .answers .lowest .exact) h)
+
+peeks : (s : List ℕ) (a x : ℕ) (s′ : List ℕ) (n : Numbers) → Sound s → x < vars s → IsMade s a → PeekPromise s a x s′ n → n ≡ readAs (at s a x)
+peeks s a x s′ n ok known made p = go (code-of n)
+  where
+    valued : (n .code ≡ 0) ⊎ Applies (conditions (Call.peek a x) s []) (n .code) → 1 ≤ n .code → (noValue ≡ n .code) × (at s a x ≡ unbound)
+    valued (inl e) h = absurd (omega arith)
+    valued (inr (inl (e, bad))) h = absurd (bad ok)
+    valued (inr (inr (inl (e, far)))) h = absurd (omega arith)
+    valued (inr (inr (inr (inl (e, un))))) h = absurd (un made)
+    valued (inr (inr (inr (inr (inl w))))) h = w
+    valued (inr (inr (inr (inr (inr z))))) h = absurd z
+
+    go : Code n → n ≡ readAs (at s a x)
+    go (is-done e) = read (at s a x) n (p .answers .done e)
+    go (is-refused h) = unread (at s a x) n (p .answers .refused h .0) (valued (p .answers .lowest .exact) h)
+
+unaltered : {rows : List Row} (s t : List ℕ) (a : ℕ) (s′ t′ : List ℕ) (n : Numbers)
+    → Answers rows n ((s′ ≡ s) × (t′ ≡ t)) (SwitchDone s t a s′ t′ n) → (b x : ℕ) → at s′ b x ≡ at s b x
+unfolding at meaning
+unaltered s t a s′ t′ n p b x = go (code-of n)
+  where
+    go : Code n → at s′ b x ≡ at s b x
+    go (is-done e) = p .done e .switched .alters-nothing b x
+    go (is-refused h) = ap (λ (u : List ℕ). at u b x) (p .refused h .1 .0)
+
+-- a sound store is not refused as Damaged: every other number is above it
+undamaged : (c : Call) (s t : List ℕ) → Sound s → (k : ℕ) → Lowest (conditions c s t) k → k ≢ damaged
+undamaged c s t ok k l e = go (sound-lowest ok l .exact)
+  where
+    go : (k ≡ 0) ⊎ Applies (table c s t) k → ⊥
+    go (inl z) = omega arith
+    go (inr a) = omega (arith, from-least 3 (table c s t) (above-damaged c s t) k a)
+
+by-the-rule : (c : Call) (s t s′ t′ : List ℕ) (n : Numbers) → Sound s → Called c s t s′ t′ n → ByTheRule c s t s′ t′ n
+unfolding meaning
+by-the-rule c s t s′ t′ n ok p =
+    let a : AsAct c s t s′ t′ n = as-act c s t s′ t′ n ok p in
+    record {
+      sound = a .sound;
+      kept = a .kept;
+      answers = undamaged c s t ok (n .code) (p .lowest);
+      means = home-means (view s′) (sound-view s′ (a .sound));
+      replies = λ e. done-replies c s t s′ t′ n (p .done e);
+      changes = λ e. done-effect s t s′ t′ n ok c (p .done e);
+      acts = a;
+    }
+
+pub demand-2 : Demand2
+demand-2 = record {
+  opening = opens-sound;
+  calls = λ c s t s′ t′ n ok p. by-the-rule c s t s′ t′ n ok (called c s t s′ t′ n p);
+  cells = looks;
+  afar = peeks;
+  goto = λ s t a s′ t′ n p. unaltered s t a s′ t′ n (p .answers);
+  back = λ s t s′ t′ n p. unaltered s t (parentAt s) s′ t′ n (p .answers);
+}
+
+-- ==== proofs of 3
+walked : (s t : List ℕ) (a : ℕ) (s′ t′ : List ℕ) (n : Numbers) → Bytes s → Sound s → SwitchDone s t a s′ t′ n → Walked s t a s′ t′ n
+unfolding route view viewF fieldsOf
+walked s t a s′ t′ n b ok d =
+    let w = d .switched in
+    let count : n .moves ≡ length (d .moves) = ap (λ (k : Numbers). k .moves) (d .answer) in
+    record {
+      moves = d .moves;
+      events = d .events;
+      switched = record {
+        arrives = w .arrives;
+        moves = w .moves;
+        exactly = w .exactly;
+        once = w .once;
+        counted = count;
+        shortest = λ k c. omega (arith, w .shortest k c);
+        order = w .order;
+        told = w .told;
+        alters-nothing = w .alters-nothing;
+        sound = w .sound;
+      };
+      held = switch-held s t a s′ t′ n ok b d;
+      winds = w .told ∙ ap (trace (view s .tree)) (w .order) ∙ trace-order (view s .tree) (focus s) a;
+      traced = d .trace;
+      counted = ap (λ (k : Numbers). k .events) (d .answer);
+    }
+
+pub demand-3 : Demand3
+demand-3 = record {
+  goto = λ s t a s′ t′ n b p e. walked s t a s′ t′ n b (done-sound (p .answers .lowest) e) (p .answers .done e);
+  back = λ s t s′ t′ n b p e. walked s t (parentAt s) s′ t′ n b (done-sound (p .answers .lowest) e) (p .answers .done e);
+}

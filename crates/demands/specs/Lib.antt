@@ -1,0 +1,12 @@
+-- What follows from the promises of the store's calls. In the order to read:
+pub mod Stable
+pub mod Calls
+pub mod Tests
+pub mod Plain
+pub mod AsAct
+pub mod NeverRead
+pub mod NoChoice
+pub mod Held
+pub mod Demands
+pub mod Runs
+pub mod Cases

@@ -1,0 +1,234 @@
+-- Bytes past the size are never read, and of a trace only its room is: two stores that agree up to the size, and two traces
+-- of equal room, give equal answers, equal bytes up to the size and equal events; what open leaves up to the size does not
+-- depend on the buffer's old bytes. From document 01, "The bytes of a store". Stated over the promises.
+-- Assumes that what a call leaves is bytes, as memory is.
+use mathlib.Core.Path.{_≡_, refl, sym, ap, _∙_}
+use mathlib.Core.Option.{none}
+use Prim.Native.Nat.{ℕ, _*_, _≤_, _<_}
+use native.Mathlib.Omega.{arith}
+use native.Mathlib.Decide.{ℕ-discrete, decLt}
+use mathlib.Core.List.{List, [], _∷_}
+use lib.ListN.{length, take, drop, length-append}
+use lib.Seq.{take-at, drop-at}
+use lib.Dec.{eqb}
+use borrow.Author.Tests.{lt-ltb, le-ltb, ne-eqb}
+use Rattle.rules.specs.Tree.{top, path-top}
+use Rattle.rules.specs.Values.{unbound}
+use Rattle.rules.specs.Store.{Deep, home}
+use Rattle.rules.specs.Moves.{Event}
+use Rattle.rules.specs.Calls.{deciderAt, valueAt, look-right, openWhat}
+use Rattle.rules.specs.Act.{Call, Outcome, act}
+use Rattle.rules.specs.Effects.{SameDeep}
+use Rattle.layout.specs.Limits.{eventSize, sizeOf}
+use Rattle.layout.specs.Records.{vars, room, made, focus, bareC, topC}
+use Rattle.layout.specs.Fields.{fieldsOf, nodes}
+use Rattle.layout.specs.View.{asCell, whatN, upN, treeF, viewF, view}
+use Rattle.layout.specs.Sound.{Sound}
+use Rattle.layout.specs.Made.{IsMade}
+use Rattle.layout.specs.Events.{eventB, eventsB, told}
+use Rattle.layout.specs.Laws.{of-buffer, cell-past}
+use Rattle.layout.specs.SoundLaws.{what-top, what-blank, up-top, up-blank, Place, is-top, is-inner, is-blank, place, blank-node, sound-fit, sound-view}
+use Rattle.layout.specs.Same.{Bytes, same-meant, AgreeTo, agree-vars, agree-room, agree-view, agree-sound, agree-back}
+use Rattle.layout.specs.Opening.{topCells}
+use mathlib.Core.Logic.{inl, inr}
+use Rattle.store.specs.Answers.{Numbers, refusal}
+use Rattle.store.specs.Tables.{From, lowest-one, this, Row, Applies, from-least}
+use Rattle.store.specs.Promises.{meaning, at, roomFor, damagedRow, Opened, Openable, OpenPromise}
+use Rattle.demands.specs.Calls.{Promised, table, Called, called, Code, is-done, is-refused, code-of, done-sound, opens, opens-not}
+use Rattle.demands.specs.Tests.{sizeAt}
+use Rattle.demands.specs.AsAct.{acted, numbersOf, AsAct, as-act}
+
+-- ---- a store that is not sound is refused as such
+pub above-damaged : (c : Call) (s t : List ℕ) → From 3 (table c s t)
+above-damaged (Call.bind x v) s t = (omega arith, (omega arith, tt))
+above-damaged (Call.wind p q) s t = (omega arith, (omega arith, tt))
+above-damaged (Call.look x) s t = (omega arith, (omega arith, tt))
+above-damaged (Call.set x v) s t = (omega arith, (omega arith, tt))
+above-damaged Call.here s t = tt
+above-damaged (Call.goto a) s t = (omega arith, (omega arith, tt))
+above-damaged Call.back s t = (omega arith, (omega arith, tt))
+above-damaged (Call.peek a x) s t = (omega arith, (omega arith, (omega arith, tt)))
+
+from-lower : (rs : List Row) → From 3 rs → From 2 rs
+from-lower [] h = tt
+from-lower (r ∷ rs) h = (omega (arith, h .0), from-lower rs (h .1))
+
+pub damaged-only : (c : Call) (s t s′ t′ : List ℕ) (n : Numbers) → (Sound s → ⊥) → Called c s t s′ t′ n → n .code ≡ 2
+damaged-only c s t s′ t′ n bad p =
+    lowest-one (damagedRow s ∷ table c s t) (n .code) 2 (p .lowest) (this (damagedRow s) (table c s t) bad (omega arith) (from-lower (table c s t) (above-damaged c s t)))
+
+-- ---- two runs of one call: from stores that agree up to the size, with traces of equal room
+module _ (c : Call) (s u t w : List ℕ) (agree : AgreeTo s u) (rooms : roomFor t ≡ roomFor w) where
+  acted-alike : acted c s t ≡ acted c u w
+  unfolding acted sizeAt meaning
+  acted-alike = λ i. act (record { vars = agree-vars s u agree i; nodes = agree-room s u agree i }) (rooms i) c (home (agree-view s u agree i))
+
+  -- both are refused alike, or both are `act`'s
+  pub data Fate (s′ u′ t′ w′ : List ℕ) (n m : Numbers) : Type 0 where
+    both-refused : n ≡ m → n ≡ refusal (n .code) → s′ ≡ s → u′ ≡ u → t′ ≡ t → w′ ≡ w → Fate s′ u′ t′ w′ n m
+    both-acted : Sound s → AsAct c s t s′ t′ n → AsAct c u w u′ w′ m → Fate s′ u′ t′ w′ n m
+
+  pub fate : (s′ u′ t′ w′ : List ℕ) (n m : Numbers) → Called c s t s′ t′ n → Called c u w u′ w′ m → Fate s′ u′ t′ w′ n m
+  fate s′ u′ t′ w′ n m p q = go (ℕ-discrete (n .code) (m .code)) (code-of n)
+    where
+      acts : Sound s → Fate s′ u′ t′ w′ n m
+      acts ok = both-acted ok (as-act c s t s′ t′ n ok p) (as-act c u w u′ w′ m (agree-sound s u agree ok) q)
+
+      codes : Sound s → n .code ≡ m .code
+      codes ok =
+          let a : n ≡ numbersOf (acted c s t) = as-act c s t s′ t′ n ok p .answer in
+          let b : m ≡ numbersOf (acted c u w) = as-act c u w u′ w′ m (agree-sound s u agree ok) q .answer in
+          cc (acted-alike)
+
+      go : Dec (n .code ≡ m .code) → Code n → Fate s′ u′ t′ w′ n m
+      go (yes e) (is-done d) = acts (done-sound (p .lowest) d)
+      go (yes e) (is-refused h) =
+          let (r, (a, b)) = p .refused h in
+          let (r′, (a′, b′)) = q .refused (omega arith) in
+          both-refused (r ∙ ap refusal e ∙ sym r′) r a a′ b b′
+      go (no k) d = absurd (k (damaged-only c s t s′ t′ n (λ ok. k (codes ok)) p ∙ sym (damaged-only c u w u′ w′ m (λ ok. k (codes (agree-sound u s (agree-back s u agree) ok))) q)))
+
+-- ---- the events' bytes
+pub events-length : (es : List Event) → length (eventsB es) ≡ eventSize * length es
+unfolding eventsB eventB
+events-length [] = refl
+events-length (e ∷ es) = length-append (eventB e) (eventsB es) ∙ omega (arith, events-length es)
+
+-- a trace begins with the events told, and goes on as it was
+pub told-take : (es : List Event) (t : List ℕ) → take (eventSize * length es) (told es t) ≡ eventsB es
+unfolding told
+told-take es t = take-at (eventsB es) (drop (eventSize * length es) t) (eventSize * length es) (events-length es)
+
+pub told-drop : (es : List Event) (t : List ℕ) → drop (eventSize * length es) (told es t) ≡ drop (eventSize * length es) t
+unfolding told
+told-drop es t = drop-at (eventsB es) (drop (eventSize * length es) t) (eventSize * length es) (events-length es)
+
+deep-same : {d d′ : Deep} → d ≡ d′ → SameDeep d d′
+deep-same e = record {
+  focus = ap (λ (k : Deep). k .focus) e;
+  kinds = λ a. ap (λ (k : Deep). k .tree .what a) e;
+  parents = λ a. ap (λ (k : Deep). k .tree .up a) e;
+  values = λ a x. ap (λ (k : Deep). valueAt k a x) e;
+}
+
+-- equal answers, equal bytes up to the size, equal events
+pub never-read : (c : Call) (s u t w s′ u′ t′ w′ : List ℕ) (n m : Numbers) → AgreeTo s u → roomFor t ≡ roomFor w → Bytes s′ → Bytes u′
+    → Promised c s t s′ t′ n → Promised c u w u′ w′ m
+    → (n ≡ m) × (take (sizeOf (vars s) (room s)) s′ ≡ take (sizeOf (vars s) (room s)) u′) × (take (eventSize * n .events) t′ ≡ take (eventSize * n .events) w′)
+unfolding numbersOf meaning
+never-read c s u t w s′ u′ t′ w′ n m agree rooms b b′ p q = go (fate c s u t w agree rooms s′ u′ t′ w′ n m (called c s t s′ t′ n p) (called c u w u′ w′ m q))
+  where
+    size : ℕ
+    size = sizeOf (vars s) (room s)
+
+    go : Fate c s u t w agree rooms s′ u′ t′ w′ n m → (n ≡ m) × (take size s′ ≡ take size u′) × (take (eventSize * n .events) t′ ≡ take (eventSize * n .events) w′)
+    go (both-refused e r f g h k) =
+        let none-told : n .events ≡ 0 = ap (λ (o : Numbers). o .events) r in
+        (e, rw (f, g) agree, rw none-told refl)
+    go (both-acted ok x y) =
+        let same : acted c s t ≡ acted c u w = acted-alike c s u t w agree rooms in
+        let means : meaning s′ ≡ meaning u′ = x .meaning ∙ ap (λ (o : Outcome Deep). o .after) same ∙ sym (y .meaning) in
+        let v : vars s′ ≡ vars u′ = x .kept .vars ∙ agree-vars s u agree ∙ sym (y .kept .vars) in
+        let r : room s′ ≡ room u′ = x .kept .room ∙ agree-room s u agree ∙ sym (y .kept .room) in
+        let bytes = same-meant s′ u′ (x .sound) (y .sound) b b′ v r (deep-same means) in
+        let count : n .events ≡ length (acted c s t .events) = ap (λ (o : Numbers). o .events) (x .answer) in
+        let told-s = ap (take (eventSize * length (acted c s t .events))) (x .events) ∙ told-take (acted c s t .events) t in
+        let told-u = ap (take (eventSize * length (acted c u w .events))) (y .events) ∙ told-take (acted c u w .events) w in (
+          x .answer ∙ ap numbersOf same ∙ sym (y .answer),
+          rw (x .kept .vars, x .kept .room) at bytes,
+          rw count (told-s ∙ sym (rw (← same) at told-u)),
+        )
+
+cell-below : (v : ℕ) (tops : List ℕ) (x : ℕ) → x < v → topCells v tops x ≡ asCell (topC tops x)
+unfolding topCells
+cell-below v tops x h = simp (lt-ltb _ _ h)
+
+cell-beyond : (v : ℕ) (tops : List ℕ) (x : ℕ) → v ≤ x → topCells v tops x ≡ unbound
+unfolding topCells
+cell-beyond v tops x h = simp (le-ltb _ _ h)
+
+-- ---- open: only the top is made, so every environment has the top values, and past V there are none
+module _ (v n : ℕ) (tops s s′ : List ℕ) (out : Numbers) (o : Opened v n tops s s′ out) where
+  pub one-made : made s′ ≡ 1
+  unfolding IsMade fieldsOf
+  one-made = go (decLt 1 (made s′))
+    where
+      go : Dec (1 < made s′) → made s′ ≡ 1
+      go (yes l) = absurd (omega (arith, o .only-top 1 l))
+      go (no l) = omega (arith, o .sound .fields .shape .head .made-low)
+
+  pub opened-what : (a : ℕ) → view s′ .tree .what a ≡ openWhat (eqb a 0)
+  unfolding view viewF treeF fieldsOf
+  opened-what a = go (place (made s′) a)
+    where
+      go : Place (made s′) a → whatN (nodes s′ a) ≡ openWhat (eqb a 0)
+      go (is-top e) = rw e (ap whatN (o .sound .fields .shape .top) ∙ what-top)
+      go (is-inner l h) = absurd (omega (arith, one-made))
+      go (is-blank l) =
+          rw (ne-eqb a 0 (λ e. omega (arith, one-made)))
+          (ap whatN (blank-node (fieldsOf s′) (of-buffer s′ (sound-fit s′ (o .sound))) (o .sound .fields .shape) a l) ∙ what-blank)
+
+  pub opened-up : (a : ℕ) → view s′ .tree .up a ≡ none
+  unfolding view viewF treeF fieldsOf
+  opened-up a = go (place (made s′) a)
+    where
+      go : Place (made s′) a → upN (nodes s′ a) ≡ none
+      go (is-top e) = rw e (ap upN (o .sound .fields .shape .top) ∙ up-top)
+      go (is-inner l h) = absurd (omega (arith, one-made))
+      go (is-blank l) = ap upN (blank-node (fieldsOf s′) (of-buffer s′ (sound-fit s′ (o .sound))) (o .sound .fields .shape) a l) ∙ up-blank
+
+  -- every environment's value is the top's
+  top-value : (a x : ℕ) → at s′ a x ≡ at s′ 0 x
+  unfolding at valueAt deciderAt meaning home
+  top-value a x =
+      let proper = sound-view s′ (o .sound) .proper in
+      rw (path-top (view s′ .tree) proper a (opened-up a), path-top (view s′ .tree) proper 0 (opened-up 0))
+
+  past-vars : (x : ℕ) → v ≤ x → at s′ 0 x ≡ unbound
+  unfolding at meaning view viewF fieldsOf asCell bareC
+  past-vars x h =
+      ap (λ (a : ℕ). at s′ a x) (sym (o .focus)) ∙ sym (look-right (view s′) (sound-view s′ (o .sound)) x)
+      ∙ ap (λ (c : List ℕ). asCell (bareC c)) (cell-past s′ x (omega (arith, o .vars)))
+
+  pub opened-value : (a x : ℕ) → at s′ a x ≡ topCells v tops x
+  opened-value a x = top-value a x ∙ go (decLt x v)
+    where
+      go : Dec (x < v) → at s′ 0 x ≡ topCells v tops x
+      go (yes l) = o .values x l ∙ sym (cell-below v tops x l)
+      go (no l) = past-vars x (omega arith) ∙ sym (cell-beyond v tops x (omega arith))
+
+-- two buffers that open leaves from the same arguments
+pub opened-alike : (v n : ℕ) (tops s u s′ u′ : List ℕ) (out out′ : Numbers) → Bytes s′ → Bytes u′
+    → Opened v n tops s s′ out → Opened v n tops u u′ out′ → (out ≡ out′) × (take (sizeOf v n) s′ ≡ take (sizeOf v n) u′)
+unfolding meaning home at view viewF fieldsOf
+opened-alike v n tops s u s′ u′ out out′ b b′ o o′ =
+    let same : SameDeep (home (view s′)) (home (view u′)) = record {
+      focus = o .focus ∙ sym (o′ .focus);
+      kinds = λ a. opened-what v n tops s s′ out o a ∙ sym (opened-what v n tops u u′ out′ o′ a);
+      parents = λ a. opened-up v n tops s s′ out o a ∙ sym (opened-up v n tops u u′ out′ o′ a);
+      values = λ a x. opened-value v n tops s s′ out o a x ∙ sym (opened-value v n tops u u′ out′ o′ a x);
+    } in
+    let bytes = same-meant s′ u′ (o .sound) (o′ .sound) b b′ (o .vars ∙ sym (o′ .vars)) (o .nodes ∙ sym (o′ .nodes)) same in
+    (o .answer ∙ sym (o′ .answer), rw (o .vars, o .nodes) at bytes)
+
+longer : {v n : ℕ} {tops s u : List ℕ} → length s ≡ length u → Openable v n tops s → Openable v n tops u
+longer e o = record { fits = o .fits; proper = o .proper; long = omega (arith, o .long) }
+
+-- the same arguments and buffers of the same length: equal answers, and once opened equal bytes up to the size
+pub never-read-open : (v n : ℕ) (tops s u s′ u′ : List ℕ) (out out′ : Numbers) → length s ≡ length u → Bytes s′ → Bytes u′
+    → OpenPromise v n tops s s′ out → OpenPromise v n tops u u′ out′ → (out ≡ out′) × (out .code ≡ 0 → take (sizeOf v n) s′ ≡ take (sizeOf v n) u′)
+never-read-open v n tops s u s′ u′ out out′ long b b′ p q = go (code-of out) (code-of out′)
+  where
+    -- refused there, so refused here
+    bad : {w w′ : List ℕ} {o : Numbers} → OpenPromise v n tops w w′ o → 1 ≤ o .code → Openable v n tops w → ⊥
+    bad {w} {w′} {o} r h good = omega (arith, ap (λ (k : Numbers). k .code) (opens v n tops w w′ o r good .answer))
+
+    go : Code out → Code out′ → (out ≡ out′) × (out .code ≡ 0 → take (sizeOf v n) s′ ≡ take (sizeOf v n) u′)
+    go (is-done d) (is-done d′) =
+        let (e, bytes) = opened-alike v n tops s u s′ u′ out out′ b b′ (p .answers .done d) (q .answers .done d′) in
+        (e, λ z. bytes)
+    go (is-done d) (is-refused r) =
+        absurd (omega (arith, ap (λ (k : Numbers). k .code) (opens-not v n tops s s′ out p (λ o. bad q r (longer long o)) .0)))
+    go (is-refused r) c =
+        let first = opens-not v n tops s s′ out p (bad p r) .0 in
+        (first ∙ sym (opens-not v n tops u u′ out′ q (λ o. bad p r (longer (sym long) o)) .0), λ z. absurd (omega arith))

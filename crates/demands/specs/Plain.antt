@@ -1,0 +1,134 @@
+-- A deep store that stores nothing but by bindings is its tree, its focus and its values: two of them that agree in these are
+-- one. What a sound store means is so, and `act` keeps it so. From document 01, "Meaning", and soundness ("for a wind a zero
+-- stored state and value"). Assumes nothing.
+use mathlib.Core.Path.{_≡_, refl, sym, ap, _∙_, fun-ext}
+use mathlib.Core.Logic.{_≢_}
+use mathlib.Core.Option.{Option, none, some}
+use Prim.Native.Nat.{ℕ}
+use native.Mathlib.Omega.{arith}
+use native.Mathlib.Decide.{ℕ-discrete}
+use mathlib.Core.List.{List, [], _∷_}
+use Rattle.rules.specs.Basic.{upd, upd-same, upd-other, upd-id}
+use Rattle.rules.specs.Tree.{What, blank, top, binding, wind, Proper, path, path-top}
+use Rattle.rules.specs.Values.{unbound, value, Values, exchange, swap-stored-other, leaveAll, assign, Decides, decider-decides}
+use Rattle.rules.specs.Store as store
+use Rattle.rules.specs.Store.{Deep, home}
+use Rattle.rules.specs.Calls.{deciderAt, valueAt}
+use Rattle.rules.specs.Meaning.{binds-is}
+use Rattle.rules.specs.Refusals as refusals
+use Rattle.rules.specs.Act.{Call, Size, nextNumber, changed}
+use Rattle.rules.specs.Effects.{SameDeep}
+use Rattle.layout.specs.Records.{focus}
+use Rattle.layout.specs.View.{view}
+use Rattle.layout.specs.Sound.{Sound}
+use Rattle.layout.specs.SoundLaws.{sound-view}
+use Rattle.layout.specs.Same.{own-value, binding-up, others-blank}
+use Rattle.layout.specs.Reading.{top-up}
+use Rattle.store.specs.Tables as tables
+use Rattle.store.specs.Promises.{meaning}
+use Rattle.demands.specs.Tests.{seen-numbered}
+
+-- nothing is stored but by bindings
+abbrev pub Plain : Deep → Type 0
+Plain d = (n : ℕ) → ((x : ℕ) → d .tree .what n ≢ binding x) → d .own .stored n ≡ unbound
+
+top-value : (d : Deep) → Proper (d .tree) → d .tree .up 0 ≡ none → (x : ℕ) → valueAt d 0 x ≡ d .own .cell x
+unfolding valueAt deciderAt
+top-value d proper e x = rw (path-top (d .tree) proper 0 e)
+
+-- the same tree, focus and values: the same deep store
+pub deep-one : (s : List ℕ) → Sound s → (d : Deep) → SameDeep (meaning s) d → ((n : ℕ) → d .tree .rank n ≡ n) → Plain (meaning s) → Plain d → meaning s ≡ d
+unfolding meaning home
+deep-one s ok d same ranks plain plain′ = λ i. record { tree = trees i; focus = same .focus i; own = record { cell = fun-ext cell i; stored = fun-ext stored i } }
+  where
+    rank : (n : ℕ) → view s .tree .rank n ≡ d .tree .rank n
+    rank n = seen-numbered s ok .ranks n ∙ sym (ranks n)
+
+    trees : view s .tree ≡ d .tree
+    trees = λ i. record { what = fun-ext (same .kinds) i; up = fun-ext (same .parents) i; rank = fun-ext rank i }
+
+    proper : Proper (d .tree)
+    proper = rw (← trees) (sound-view s ok .proper)
+
+    cell : (x : ℕ) → meaning s .own .cell x ≡ d .own .cell x
+    cell x =
+        sym (top-value (meaning s) (sound-view s ok .proper) (top-up s ok) x) ∙ same .values 0 x
+        ∙ top-value d proper (sym (same .parents 0) ∙ top-up s ok) x
+
+    by-what : (n : ℕ) (w : What) → view s .tree .what n ≡ w → meaning s .own .stored n ≡ d .own .stored n
+    by-what n (binding x) e =
+        let (p, u) = binding-up s ok n x e in
+        sym (own-value (meaning s) (sound-view s ok .proper) n x p e u) ∙ same .values n x
+        ∙ own-value d proper n x p (sym (same .kinds n) ∙ e) (sym (same .parents n) ∙ u)
+    by-what n blank e =
+        let other : (x : ℕ) → view s .tree .what n ≢ binding x = λ x f. let z : _≡_ {A = ℕ} 0 1 = cc in omega arith in
+        plain n other ∙ sym (plain′ n (λ x f. other x (same .kinds n ∙ f)))
+    by-what n top e =
+        let other : (x : ℕ) → view s .tree .what n ≢ binding x = λ x f. let z : _≡_ {A = ℕ} 0 1 = cc in omega arith in
+        plain n other ∙ sym (plain′ n (λ x f. other x (same .kinds n ∙ f)))
+    by-what n (wind a b) e =
+        let other : (x : ℕ) → view s .tree .what n ≢ binding x = λ x f. let z : _≡_ {A = ℕ} 0 1 = cc in omega arith in
+        plain n other ∙ sym (plain′ n (λ x f. other x (same .kinds n ∙ f)))
+
+    stored : (n : ℕ) → meaning s .own .stored n ≡ d .own .stored n
+    stored n = by-what n (view s .tree .what n) refl
+
+-- leaving exchanges only what bindings store
+still : (what : ℕ → What) (l : List ℕ) (v : Values) (n : ℕ) → ((x : ℕ) → what n ≢ binding x) → leaveAll what l v .stored n ≡ v .stored n
+still what [] v n h = refl
+still what (m ∷ l) v n h = still what l (exchange (what m) m v) n h ∙ go (what m) refl
+  where
+    go : (w : What) → what m ≡ w → exchange w m v .stored n ≡ v .stored n
+    go blank e = refl
+    go top e = refl
+    go (binding x) e = swap-stored-other (some x) m n v (λ q. h x (rw q e))
+    go (wind a b) e = refl
+
+pub plain-meaning : (s : List ℕ) → Sound s → Plain (meaning s)
+unfolding meaning home
+plain-meaning s ok n h = still (view s .tree .what) (path (view s .tree) (view s .focus)) (view s .values) n h ∙ others-blank s ok n h
+
+new-rank : {rank : ℕ → ℕ} (m n : ℕ) → ((k : ℕ) → rank k ≡ k) → upd rank m m n ≡ n
+new-rank {rank} m n r = ap (λ (f : ℕ → ℕ). f n) (upd-id rank m m (r m)) ∙ r n
+
+-- no call stores anything but by a binding, and a new node ranks by its number
+module _ (z : Size) (d : Deep) (plain : Plain d) where
+  pub plain-changed : (c : Call) → Plain (changed z c d)
+  unfolding changed deciderAt
+  plain-changed (Call.bind x v) n h = go (ℕ-discrete n (nextNumber z (d .tree)))
+    where
+      m : ℕ
+      m = nextNumber z (d .tree)
+
+      go : Dec (n ≡ m) → upd (d .own .stored) m (value v) n ≡ unbound
+      go (yes e) = absurd (h x (rw e (upd-same (d .tree .what) m (binding x))))
+      go (no e) = upd-other (d .own .stored) m n (value v) e ∙ plain n (λ y f. h y (upd-other (d .tree .what) m n (binding x) e ∙ f))
+  plain-changed (Call.wind p q) n h = go (ℕ-discrete n (nextNumber z (d .tree)))
+    where
+      m : ℕ
+      m = nextNumber z (d .tree)
+
+      go : Dec (n ≡ m) → upd (d .own .stored) m unbound n ≡ unbound
+      go (yes e) = rw e (upd-same (d .own .stored) m unbound)
+      go (no e) = upd-other (d .own .stored) m n unbound e ∙ plain n (λ y f. h y (upd-other (d .tree .what) m n (wind p q) e ∙ f))
+  plain-changed (Call.look x) n h = plain n h
+  plain-changed (Call.set x v) n h = go (deciderAt (d .tree) (d .focus) x) (decider-decides (d .tree .what) x (path (d .tree) (d .focus)))
+    where
+      go : (o : Option ℕ) → Decides (d .tree .what) x (path (d .tree) (d .focus)) o → assign x (value v) o (d .own) .stored n ≡ unbound
+      go none k = plain n h
+      go (some m) k = upd-other (d .own .stored) m n (value v) (λ e. h x (rw e (binds-is (d .tree .what m) x (k .1)))) ∙ plain n h
+  plain-changed Call.here n h = plain n h
+  plain-changed (Call.goto a) n h = plain n h
+  plain-changed Call.back n h = plain n h
+  plain-changed (Call.peek a x) n h = plain n h
+
+  pub ranks-changed : (c : Call) → ((n : ℕ) → d .tree .rank n ≡ n) → (n : ℕ) → changed z c d .tree .rank n ≡ n
+  unfolding changed
+  ranks-changed (Call.bind x v) r n = new-rank (nextNumber z (d .tree)) n r
+  ranks-changed (Call.wind p q) r n = new-rank (nextNumber z (d .tree)) n r
+  ranks-changed (Call.look x) r n = r n
+  ranks-changed (Call.set x v) r n = r n
+  ranks-changed Call.here r n = r n
+  ranks-changed (Call.goto a) r n = r n
+  ranks-changed Call.back r n = r n
+  ranks-changed (Call.peek a x) r n = r n

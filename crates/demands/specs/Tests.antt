@@ -1,0 +1,163 @@
+-- A promise's table and the rules' table of tests say the same of a sound store, so the number that a promise gives is the
+-- one that `act` finds. From document 01, "The numbers a call can give back". Assumes nothing.
+use mathlib.Core.Path.{_≡_, refl, sym, ap, _∙_}
+use mathlib.Core.Logic.{_⊎_, inl, inr}
+use mathlib.Core.Bool.{Bool, true, false, not, _||_, _&&_}
+use mathlib.Core.Option.{Option, none, some}
+use Prim.Native.Nat.{ℕ, zero, suc, _≤_}
+use native.Mathlib.Omega.{arith}
+use mathlib.Core.List.{List, [], _∷_}
+use lib.Dec.{leb, eqb}
+use lib.ListN.{length}
+use borrow.Author.Tests.{leb-true, leb-false, eqb-true}
+use Rattle.rules.specs.Basic.{clash, eqb-self, some≢none}
+use Rattle.rules.specs.Tree.{blank, wind, Tree}
+use Rattle.rules.specs.Values.{Cell, unbound, value}
+use Rattle.rules.specs.Store as store
+use Rattle.rules.specs.Store.{home}
+use Rattle.rules.specs.Refusals as refusals
+use Rattle.rules.specs.Refusals.{gives, lowest, lowest-only}
+use Rattle.rules.specs.Act.{Call, Size, isMade, nextNumber, isFull, shown, backTo, isUnbound, isNone, rows, eventsOf}
+use Rattle.rules.specs.Agree.{Numbered, numbered, next-is, is-made, made-is}
+use Rattle.layout.specs.Records.{vars, room, made, focus}
+use Rattle.layout.specs.Fields.{fieldsOf}
+use Rattle.layout.specs.View.{whatN, treeF, viewF, view}
+use Rattle.layout.specs.Sound.{Says, Sound}
+use Rattle.layout.specs.Made.{IsMade, nextOf, IsFull}
+use Rattle.layout.specs.Laws.{of-buffer}
+use Rattle.layout.specs.SoundLaws.{what-blank, blank-node, sound-fit, sound-view}
+use Rattle.layout.specs.CheckLaws.{says-eq, says-lt}
+use Rattle.layout.specs.WalkLaws.{made-seen, seen-made, focus-made}
+use Rattle.layout.specs.Events.{eventsTo}
+use Rattle.layout.specs.Reading.{top-up}
+use Rattle.store.specs.Tables as tables
+use Rattle.store.specs.Tables.{Applies, Lowest}
+use Rattle.store.specs.Promises.{meaning, at, roomFor, parentAt}
+use Rattle.demands.specs.Calls.{table}
+
+-- the V and N of a store
+unfoldable pub sizeAt : List ℕ → Size
+sizeAt s = record { vars = vars s; nodes = room s }
+
+-- ---- a promise's table and a table of tests
+pub record RowSays (r : tables.Row) (q : refusals.Row) : Type 0 where
+  pub number : r .number ≡ q .number
+  pub says : Says (q .applies) (r .when)
+
+abbrev pub TableSays : List tables.Row → List refusals.Row → Type 0
+TableSays [] [] = Unit {0}
+TableSays [] (q ∷ qs) = ⊥
+TableSays (r ∷ rs) [] = ⊥
+TableSays (r ∷ rs) (q ∷ qs) = RowSays r q × TableSays rs qs
+
+-- a row and its test with the same number
+row : {n : ℕ} {b : Bool} {W : Type 0} → Says b W → RowSays (tables.row n W) (refusals.row n b)
+row h = record { number = refl; says = h }
+
+given-applies : (rs : List tables.Row) (qs : List refusals.Row) → TableSays rs qs → (n : ℕ) → gives qs n ≡ true → Applies rs n
+given-applies [] [] h n g = clash g refl
+given-applies [] (q ∷ qs) h n g = absurd h
+given-applies (r ∷ rs) [] h n g = absurd h
+given-applies (r ∷ rs) (q ∷ qs) (h, k) n g = go (q .applies) (eqb (q .number) n) refl (h .says) g (given-applies rs qs k n)
+  where
+    go : (a b : Bool) → eqb (q .number) n ≡ b → Says a (r .when) → ((a && b) || gives qs n) ≡ true → (gives qs n ≡ true → Applies rs n) → Applies (r ∷ rs) n
+    go true true e w f ih = inl (h .number ∙ eqb-true (q .number) n e, w)
+    go true false e w f ih = inr (ih f)
+    go false true e w f ih = inr (ih f)
+    go false false e w f ih = inr (ih f)
+
+applies-given : (rs : List tables.Row) (qs : List refusals.Row) → TableSays rs qs → (n : ℕ) → Applies rs n → gives qs n ≡ true
+applies-given [] qs h n a = absurd a
+applies-given (r ∷ rs) [] h n a = absurd h
+applies-given (r ∷ rs) (q ∷ qs) (h, k) n (inl (e, w)) = go (q .applies) (h .says)
+  where
+    go : (a : Bool) → Says a (r .when) → ((a && eqb (q .number) n) || gives qs n) ≡ true
+    go true z = rw (sym (h .number) ∙ e, eqb-self n)
+    go false z = absurd (z w)
+applies-given (r ∷ rs) (q ∷ qs) (h, k) n (inr a) = go (q .applies && eqb (q .number) n) (applies-given rs qs k n a)
+  where
+    go : (b : Bool) → gives qs n ≡ true → (b || gives qs n) ≡ true
+    go true f = refl
+    go false f = f
+
+-- the code as the rules' tests give it
+abbrev pub refusedAs : ℕ → Option ℕ
+refusedAs zero = none
+refusedAs (suc k) = some (suc k)
+
+pub lowest-says : (rs : List tables.Row) (qs : List refusals.Row) → TableSays rs qs → (c : ℕ) → Lowest rs c → lowest qs ≡ refusedAs c
+lowest-says rs qs h c l = sym (lowest-only qs (refusedAs c) (go c l))
+  where
+    go : (c : ℕ) → Lowest rs c → refusals.Lowest qs (refusedAs c)
+    go zero l = λ n. never n (gives qs n) refl
+      where
+        never : (n : ℕ) (b : Bool) → gives qs n ≡ b → b ≡ false
+        never n true e = absurd (omega (arith, l .least n (given-applies rs qs h n e)))
+        never n false e = refl
+    go (suc k) l = (applies-given rs qs h (suc k) (applied (l .exact)), λ m g. l .least m (given-applies rs qs h m g) .1)
+      where
+        applied : (suc k ≡ 0) ⊎ Applies rs (suc k) → Applies rs (suc k)
+        applied (inl e) = absurd (omega arith)
+        applied (inr a) = a
+
+-- ---- the conditions, tested on the meaning
+says-le : (a b : ℕ) → Says (leb a b) (a ≤ b)
+says-le a b = go (leb a b) refl
+  where
+    go : (t : Bool) → leb a b ≡ t → Says t (a ≤ b)
+    go true e = leb-true a b e
+    go false e = λ h. omega (arith, leb-false a b e)
+
+says-unbound : (c : Cell) → Says (isUnbound c) (c ≡ unbound)
+says-unbound unbound = refl
+says-unbound (value v) = λ e. let z : _≡_ {A = ℕ} 0 1 = cc in omega arith
+
+module _ (s : List ℕ) (ok : Sound s) where
+  abbrev seen : Tree
+  seen = view s .tree
+
+  beyond-made : (n : ℕ) → made s ≤ n → seen .what n ≡ blank
+  unfolding view viewF treeF fieldsOf
+  beyond-made n h = ap whatN (blank-node (fieldsOf s) (of-buffer s (sound-fit s ok)) (ok .fields .shape) n h) ∙ what-blank
+
+  made-fits : made s ≤ room s
+  unfolding fieldsOf
+  made-fits = ok .fields .shape .head .made-high
+
+  -- the next number is made
+  pub next-made : nextNumber (sizeAt s) seen ≡ nextOf s
+  unfolding IsMade nextOf sizeAt
+  next-made = next-is (sizeAt s) seen (made s) made-fits (λ n l. made-seen s ok n l) beyond-made
+
+  pub seen-numbered : Numbered (sizeAt s) seen
+  unfolding IsMade sizeAt view viewF treeF
+  seen-numbered = numbered (sizeAt s) seen (made s) made-fits (λ n l. made-seen s ok n l) beyond-made (λ n. refl)
+
+  says-unmade : (a : ℕ) → Says (not (isMade seen a)) (IsMade s a → ⊥)
+  says-unmade a = go (isMade seen a) refl
+    where
+      go : (b : Bool) → isMade seen a ≡ b → Says (not b) (IsMade s a → ⊥)
+      go true e = λ k. k (seen-made s ok a (is-made seen a e))
+      go false e = λ h. clash (made-is seen a (made-seen s ok a h)) e
+
+  says-full : Says (isFull (sizeAt s) seen) (IsFull s)
+  unfolding isFull IsFull sizeAt nextOf
+  says-full = rw next-made (says-eq (made s) (room s))
+
+  says-top : Says (isNone (seen .up (focus s))) (focus s ≡ 0)
+  says-top = go (seen .up (focus s)) refl
+    where
+      go : (o : Option ℕ) → seen .up (focus s) ≡ o → Says (isNone o) (focus s ≡ 0)
+      go none e = sound-view s ok .proper .one-top (focus s) (made-seen s ok (focus s) (focus-made s ok)) e
+      go (some p) e = λ z. some≢none (rw z at e) (top-up s ok)
+
+  pub table-says : (t : List ℕ) (c : Call) → TableSays (table c s t) (rows (sizeAt s) (roomFor t) c (shown (meaning s)))
+  unfolding rows shown meaning home at sizeAt eventsOf parentAt backTo view viewF fieldsOf
+  table-says t (Call.bind x v) = (row (says-le (vars s) x), (row says-full, tt))
+  table-says t (Call.wind p q) = (row says-full, (row (says-lt (roomFor t) 1), tt))
+  table-says t (Call.look x) = (row (says-le (vars s) x), (row (says-unbound (at s (focus s) x)), tt))
+  table-says t (Call.set x v) = (row (says-le (vars s) x), (row (says-unbound (at s (focus s) x)), tt))
+  table-says t Call.here = tt
+  table-says t (Call.goto a) = (row (says-unmade a), (row (says-lt (roomFor t) (length (eventsTo s a))), tt))
+  table-says t Call.back = (row (says-lt (roomFor t) (length (eventsTo s (parentAt s)))), (row says-top, tt))
+  table-says t (Call.peek a x) = (row (says-le (vars s) x), (row (says-unmade a), (row (says-unbound (at s a x)), tt)))

@@ -1,0 +1,23 @@
+-- `kn_back` hands over: what it answers are the numbers of the answer of `back`. Assumes nothing.
+use borrow.Author.Needs.{needs}
+use Rattle.kestrelnib.proofs.kn_back.Statement.{statement}
+use Rattle.kestrelnib.proofs.kn_back.Tie as tie
+
+back-requires : tie.Need-back-requires
+back-requires c κs = search needs
+
+numbered-requires : tie.Need-numbered-requires
+numbered-requires c κs = search needs
+
+same-length : tie.Need-same-length
+same-length c = search needs
+
+same-length-2 : tie.Need-same-length-2
+same-length-2 c = search needs
+
+returns : tie.Need-returns
+returns c = rw (c .numbered .ensures) (c .before .before .before .before .before .back .ensures)
+
+pub kn-back-spec : {M : Type 1} → statement M
+kn-back-spec =
+    tie.close (tie.spec back-requires numbered-requires same-length same-length-2 returns)

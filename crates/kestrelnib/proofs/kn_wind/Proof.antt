@@ -1,0 +1,23 @@
+-- `kn_wind` hands over: what it answers are the numbers of the answer of `wind`. Assumes nothing.
+use borrow.Author.Needs.{needs}
+use Rattle.kestrelnib.proofs.kn_wind.Statement.{statement}
+use Rattle.kestrelnib.proofs.kn_wind.Tie as tie
+
+wind-requires : tie.Need-wind-requires
+wind-requires c κs = search needs
+
+numbered-requires : tie.Need-numbered-requires
+numbered-requires c κs = search needs
+
+same-length : tie.Need-same-length
+same-length c = search needs
+
+same-length-2 : tie.Need-same-length-2
+same-length-2 c = search needs
+
+returns : tie.Need-returns
+returns c = rw (c .numbered .ensures) (c .before .before .before .before .before .wind .ensures)
+
+pub kn-wind-spec : {M : Type 1} → statement M
+kn-wind-spec =
+    tie.close (tie.spec wind-requires numbered-requires same-length same-length-2 returns)

@@ -1,0 +1,60 @@
+-- Document 01's kinds: 0 blank, 1 top, 2 binding out, 3 binding in, 4 wind out, 5 wind in. What is in or out, a binding
+-- or a wind is read from the kind here and nowhere else. Assumes nothing.
+use mathlib.Core.Path.{_≡_, refl, sym, ap, _∙_}
+use mathlib.Core.Logic.{_≢_}
+use mathlib.Core.Bool.{Bool, true, false, cond, _||_}
+use Prim.Native.Nat.{ℕ, zero, suc, _+_, _-_, _≤_, _<_}
+use native.Mathlib.Omega.{arith}
+use lib.Dec.{leb, eqb}
+use borrow.Author.Tests.{le-leb, lt-leb, eq-eqb, ne-eqb}
+
+-- a between lo and hi
+abbrev pub within : ℕ → ℕ → ℕ → Bool
+within lo a hi = cond (leb lo a) (leb a hi) false
+
+-- by the kind k: b for a binding, w for a wind, t for the top, o for anything else
+unfoldable pub byKind : {A : Type 0} → ℕ → A → A → A → A → A
+byKind k b w t o = cond (within 2 k 3) b (cond (within 4 k 5) w (cond (eqb k 1) t o))
+
+-- in, of a binding or a wind
+unfoldable pub isIn : ℕ → Bool
+isIn k = eqb k 3 || eqb k 5
+
+-- out, of a binding or a wind: the top counts as in
+unfoldable pub isOut : ℕ → Bool
+isOut k = eqb k 2 || eqb k 4
+
+-- the kind once left, and once entered
+abbrev pub leftKind : ℕ → ℕ
+leftKind k = k - 1
+
+abbrev pub enteredKind : ℕ → ℕ
+enteredKind k = k + 1
+
+module _ {A : Type 0} (k : ℕ) (b w t o : A) where
+  pub kind-binding : 2 ≤ k → k ≤ 3 → byKind k b w t o ≡ b
+  unfolding byKind
+  kind-binding l h = simp (le-leb _ _ l, le-leb _ _ h)
+
+  pub kind-wind : 4 ≤ k → k ≤ 5 → byKind k b w t o ≡ w
+  unfolding byKind
+  kind-wind l h =
+      let l2 : 2 ≤ k = omega arith in
+      let h2 : 3 < k = omega arith in
+      simp (le-leb _ _ l, le-leb _ _ l2, lt-leb _ _ h2, le-leb _ _ h)
+
+-- a kind from 2 to 5 is one of four
+pub data Node : ℕ → Type 0 where
+  binding-out : Node 2
+  binding-in : Node 3
+  wind-out : Node 4
+  wind-in : Node 5
+
+pub node-kind : (k : ℕ) → 2 ≤ k → k ≤ 5 → Node k
+node-kind zero l h = absurd (omega arith)
+node-kind (suc zero) l h = absurd (omega arith)
+node-kind (suc (suc zero)) l h = binding-out
+node-kind (suc (suc (suc zero))) l h = binding-in
+node-kind (suc (suc (suc (suc zero)))) l h = wind-out
+node-kind (suc (suc (suc (suc (suc zero))))) l h = wind-in
+node-kind (suc (suc (suc (suc (suc (suc k)))))) l h = absurd (omega arith)

@@ -1,0 +1,27 @@
+-- The store's bytes: limits, records as parts of the list, fields, soundness, and the view of bytes as a store of the rules.
+pub mod Limits
+pub mod Bytes
+pub mod Records
+pub mod Fields
+pub mod Kinds
+pub mod View
+pub mod Sound
+pub mod Events
+pub mod Opening
+pub mod Writes
+pub mod Made
+pub mod Becomes
+pub mod Laws
+pub mod RecordLaws
+pub mod SoundLaws
+pub mod MoveLaws
+pub mod Reading
+pub mod OpenLaws
+pub mod GrowLaws
+pub mod CheckLaws
+pub mod Routes
+pub mod WalkLaws
+pub mod Same
+pub mod RouteLaws
+pub mod EventLaws
+pub mod TellLaws

@@ -1,0 +1,117 @@
+-- Document 01, "The bytes of a store": the header, a cell and a node as parts of the list, the fields read from such a
+-- record, and the records with fields changed. With Limits and Laws, the only files that know a place.
+-- Assumes nothing: these are definitions.
+use mathlib.Core.Path.{_≡_}
+use mathlib.Core.Logic.{_⊎_}
+use Prim.Native.Nat.{ℕ, _+_, _*_, _/_, _%_}
+use mathlib.Core.List.{List, [], _∷_}
+use lib.ListN.{getD, set}
+use lib.IntN.{ℤ}
+use mir.Syntax.{w32}
+use mir.Val.{ofZ}
+use Rattle.layout.specs.Limits.{header, cellSize, bareSize, nodeSize, cellAt, nodeAt}
+use Rattle.layout.specs.Bytes.{part, splice, u16, put16}
+
+-- ---- the header: V, N, made, focus
+unfoldable pub headOf : List ℕ → List ℕ
+headOf s = part s 0 header
+
+unfoldable pub withHead : List ℕ → List ℕ → List ℕ
+withHead s h = splice s 0 header h
+
+unfoldable pub vars : List ℕ → ℕ
+vars s = u16 (headOf s) 0
+
+unfoldable pub room : List ℕ → ℕ
+room s = u16 (headOf s) 2
+
+unfoldable pub made : List ℕ → ℕ
+made s = u16 (headOf s) 4
+
+unfoldable pub focus : List ℕ → ℕ
+focus s = u16 (headOf s) 6
+
+unfoldable pub withFocus : List ℕ → ℕ → List ℕ
+withFocus s f = withHead s (put16 (headOf s) 6 f)
+
+unfoldable pub withMade : List ℕ → ℕ → List ℕ
+withMade s m = withHead s (put16 (headOf s) 4 m)
+
+-- ---- a bare cell: its state, then its value in four bytes
+abbrev pub blankCell : List ℕ
+blankCell = 0 ∷ 0 ∷ 0 ∷ 0 ∷ 0 ∷ []
+
+-- 0 unbound and all zero, or 1 and any value
+abbrev pub ProperCell : List ℕ → Type 0
+ProperCell c = (c ≡ blankCell) ⊎ (getD c 0 0 ≡ 1)
+
+-- the value's 32 bits
+unfoldable pub bitsC : List ℕ → ℕ
+bitsC c = getD c 1 0 + 256 * getD c 2 0 + 65536 * getD c 3 0 + 16777216 * getD c 4 0
+
+-- the bare cell of the value v
+unfoldable pub valueC : ℤ → List ℕ
+valueC v = 1 ∷ ofZ w32 v % 256 ∷ ofZ w32 v / 256 % 256 ∷ ofZ w32 v / 65536 % 256 ∷ ofZ w32 v / 16777216 % 256 ∷ []
+
+-- ---- a cell of the store
+unfoldable pub cellOf : List ℕ → ℕ → List ℕ
+cellOf s x = part s (cellAt x) cellSize
+
+unfoldable pub withCell : List ℕ → ℕ → List ℕ → List ℕ
+withCell s x c = splice s (cellAt x) cellSize c
+
+-- the bare cell in its record, and the record with another
+unfoldable pub bareC : List ℕ → List ℕ
+bareC p = getD p 0 0 ∷ getD p 1 0 ∷ getD p 2 0 ∷ getD p 3 0 ∷ getD p 4 0 ∷ []
+
+unfoldable pub putC : List ℕ → List ℕ → List ℕ
+putC p c = set (set (set (set (set p 0 (getD c 0 0)) 1 (getD c 1 0)) 2 (getD c 2 0)) 3 (getD c 3 0)) 4 (getD c 4 0)
+
+-- the bare cell of x in open's top cells
+unfoldable pub topC : List ℕ → ℕ → List ℕ
+topC tops x = bareC (part tops (bareSize * x) bareSize)
+
+-- ---- a node of the store
+unfoldable pub nodeOf : List ℕ → ℕ → List ℕ
+nodeOf s n = part s (nodeAt (vars s) n) nodeSize
+
+unfoldable pub withNode : List ℕ → ℕ → List ℕ → List ℕ
+withNode s n p = splice s (nodeAt (vars s) n) nodeSize p
+
+unfoldable pub kindN : List ℕ → ℕ
+kindN p = getD p 0 0
+
+unfoldable pub parentN : List ℕ → ℕ
+parentN p = u16 p 2
+
+-- the variable or the prelude
+unfoldable pub varN : List ℕ → ℕ
+varN p = u16 p 4
+
+-- zero or the postlude
+unfoldable pub postN : List ℕ → ℕ
+postN p = u16 p 6
+
+-- the stored cell, as a bare cell
+unfoldable pub storedN : List ℕ → List ℕ
+storedN p = getD p 1 0 ∷ getD p 8 0 ∷ getD p 9 0 ∷ getD p 10 0 ∷ getD p 11 0 ∷ []
+
+-- a node with another kind, and with another kind and another stored cell
+unfoldable pub turnN : List ℕ → ℕ → List ℕ
+turnN p k = set p 0 k
+
+unfoldable pub swapN : List ℕ → ℕ → List ℕ → List ℕ
+swapN p k c = set (set (set (set (set (set p 0 k) 1 (getD c 0 0)) 8 (getD c 1 0)) 9 (getD c 2 0)) 10 (getD c 3 0)) 11 (getD c 4 0)
+
+-- a whole node: kind, parent, variable or prelude, zero or postlude, stored cell
+unfoldable pub nodeB : ℕ → ℕ → ℕ → ℕ → List ℕ → List ℕ
+nodeB k up a b c =
+    k ∷ getD c 0 0 ∷ up % 256 ∷ up / 256 ∷ a % 256 ∷ a / 256 ∷ b % 256 ∷ b / 256 ∷
+    getD c 1 0 ∷ getD c 2 0 ∷ getD c 3 0 ∷ getD c 4 0 ∷ []
+
+-- kind 1 and zero otherwise; all zero
+unfoldable pub topNode : List ℕ
+topNode = 1 ∷ 0 ∷ 0 ∷ 0 ∷ 0 ∷ 0 ∷ 0 ∷ 0 ∷ 0 ∷ 0 ∷ 0 ∷ 0 ∷ []
+
+unfoldable pub blankNode : List ℕ
+blankNode = 0 ∷ 0 ∷ 0 ∷ 0 ∷ 0 ∷ 0 ∷ 0 ∷ 0 ∷ 0 ∷ 0 ∷ 0 ∷ 0 ∷ []

@@ -1,0 +1,41 @@
+-- Fields read as a store of the rules (document 01, "The bytes of a store"): what each node is, its parent, its mode, the
+-- cells and the stored cells. The rank that falls towards the top is the node's own number.
+-- Assumes nothing: these are definitions.
+use mathlib.Core.Bool.{Bool, true, false, cond}
+use mathlib.Core.Option.{Option, none, some}
+use Prim.Native.Nat.{ℕ}
+use mathlib.Core.List.{List}
+use lib.Dec.{eqb}
+use lib.ListN.{getD}
+use mir.Syntax.{w32}
+use mir.Val.{toZ}
+use Rattle.rules.specs.Tree.{What, blank, top, binding, wind, Tree}
+use Rattle.rules.specs.Values.{Cell, unbound, value}
+use Rattle.rules.specs.Store.{Store}
+use Rattle.layout.specs.Records.{bitsC, bareC, kindN, parentN, varN, postN, storedN}
+use Rattle.layout.specs.Kinds.{byKind, isIn}
+use Rattle.layout.specs.Fields.{Fields, fieldsOf}
+
+-- a bare cell: state 0 is unbound, else the value in two's complement
+unfoldable pub asCell : List ℕ → Cell
+asCell c = cond (eqb (getD c 0 0) 0) unbound (value (toZ w32 (bitsC c)))
+
+unfoldable pub whatN : List ℕ → What
+whatN p = byKind (kindN p) (binding (varN p)) (wind (varN p) (postN p)) top blank
+
+unfoldable pub upN : List ℕ → Option ℕ
+upN p = byKind (kindN p) (some (parentN p)) (some (parentN p)) none none
+
+unfoldable pub treeF : (ℕ → List ℕ) → Tree
+treeF node = record { what = λ n. whatN (node n); up = λ n. upN (node n); rank = λ n. n }
+
+unfoldable pub viewF : Fields → Store
+viewF f = record {
+  tree = treeF (f .node);
+  focus = f .focus;
+  values = record { cell = λ x. asCell (bareC (f .cell x)); stored = λ n. asCell (storedN (f .node n)) };
+  mode = λ n. isIn (kindN (f .node n));
+}
+
+unfoldable pub view : List ℕ → Store
+view s = viewF (fieldsOf s)

@@ -1,0 +1,63 @@
+-- What the code below the walk writes, in bytes: one move, a new node, a set, an opened store.
+-- Nothing here is a promise: the calls' promises speak of the view. Assumes nothing: these are definitions.
+use mathlib.Core.Bool.{Bool, true, false, cond}
+use Prim.Native.Nat.{ℕ, _+_, _-_, _*_, _/_, _%_, _≤_, _<_}
+use mathlib.Core.List.{List, [], _∷_, _++_}
+use lib.ListN.{length, drop, replicate}
+use lib.IntN.{ℤ}
+use Rattle.rules.specs.Moves.{Event}
+use Rattle.layout.specs.Limits.{nodeSize, eventSize}
+use Rattle.layout.specs.Records.{vars, room, made, focus, withFocus, withMade, blankCell, valueC, cellOf, withCell, bareC, putC, nodeOf, withNode, kindN, parentN, varN, storedN, turnN, swapN, nodeB, topNode}
+use Rattle.layout.specs.Kinds.{byKind, leftKind, enteredKind}
+use Rattle.layout.specs.Fields.{Fit}
+
+-- the cell of the binding n and its stored cell change places, and n's kind becomes k
+unfoldable pub swapB : List ℕ → ℕ → ℕ → List ℕ
+swapB s n k =
+    let x = varN (nodeOf s n) in
+    let t = withNode s n (swapN (nodeOf s n) k (bareC (cellOf s x))) in
+    withCell t x (putC (cellOf t x) (storedN (nodeOf s n)))
+
+-- by its kind, the node n becomes of kind k
+unfoldable pub turnB : List ℕ → ℕ → ℕ → List ℕ
+turnB s n k = byKind (kindN (nodeOf s n)) (swapB s n k) (withNode s n (turnN (nodeOf s n) k)) s s
+
+unfoldable pub moveB : List ℕ → ℕ → ℕ → ℕ → List ℕ
+moveB s n k f = withFocus (turnB s n k) f
+
+-- the focus is left for its parent; the child n of the focus is entered
+abbrev pub leaveB : List ℕ → List ℕ
+leaveB s = moveB s (focus s) (leftKind (kindN (nodeOf s (focus s)))) (parentN (nodeOf s (focus s)))
+
+abbrev pub enterB : List ℕ → ℕ → List ℕ
+enterB s n = moveB s n (enteredKind (kindN (nodeOf s n))) n
+
+-- the node n can be turned: it has its place, and a binding's variable has its cell
+pub record Turns (s : List ℕ) (n : ℕ) : Type 0 where
+  pub fit : Fit s
+  pub below : n < room s
+  pub low : 2 ≤ kindN (nodeOf s n)
+  pub high : kindN (nodeOf s n) ≤ 5
+  pub var : kindN (nodeOf s n) ≤ 3 → varN (nodeOf s n) < vars s
+
+-- the cell of x takes the value v
+unfoldable pub setB : List ℕ → ℕ → ℤ → List ℕ
+setB s x v = withCell s x (putC (cellOf s x) (valueC v))
+
+-- a new node p, number = made, becomes the focus
+unfoldable pub growB : List ℕ → List ℕ → List ℕ
+growB s p = withFocus (withMade (withNode s (made s) p) (made s + 1)) (made s)
+
+-- a binding of x to v: it stores the cell of x, and the cell takes v
+unfoldable pub bindB : List ℕ → ℕ → ℤ → List ℕ
+bindB s x v = setB (growB s (nodeB 3 (focus s) x 0 (bareC (cellOf s x)))) x v
+
+unfoldable pub windB : List ℕ → ℕ → ℕ → List ℕ
+windB s p q = growB s (nodeB 5 (focus s) p q blankCell)
+
+-- ---- open: the header, the top cells as they were handed in, the top, blanks
+unfoldable pub headB : ℕ → ℕ → ℕ → ℕ → List ℕ
+headB v n m f = v % 256 ∷ v / 256 ∷ n % 256 ∷ n / 256 ∷ m % 256 ∷ m / 256 ∷ f % 256 ∷ f / 256 ∷ []
+
+unfoldable pub openB : ℕ → ℕ → List ℕ → List ℕ
+openB v n tops = headB v n 1 0 ++ (tops ++ (topNode ++ replicate (nodeSize * (n - 1)) 0))

@@ -1,0 +1,51 @@
+// The store's sizes and limits, written once: the code cites these constants, the definitions cite `limits`,
+// and `limits()` is proved to make them one.
+ghost use mathlib.Core.Path.{_≡_};
+ghost use Rattle.layout.specs.Limits.{limits};
+
+// The store that the caller lends as bytes.
+pub struct Store {}
+
+impl Store {
+    // Most variables, and most environments, the top counted.
+    pub const VARS: usize = 256;
+
+    pub const NODES: usize = 2_048;
+
+    // Bytes of the header, of a cell of the store, of a bare cell, of a node, of a trace event.
+    pub const HEADER: usize = 8;
+
+    pub const CELL: usize = 5;
+
+    pub const BARE: usize = 5;
+
+    pub const NODE: usize = 12;
+
+    pub const EVENT: usize = 5;
+}
+
+// The constants as one value.
+pub struct Sizes {
+    pub vars: usize,
+    pub nodes: usize,
+    pub header: usize,
+    pub cell: usize,
+    pub bare: usize,
+    pub node: usize,
+    pub event: usize,
+}
+
+// The code's constants are the definitions' numbers.
+pub fn limits() -> Sizes
+    ensures { λ r. ⌜ r ≡ limits ⌝ }
+{
+    Sizes {
+        vars: Store::VARS,
+        nodes: Store::NODES,
+        header: Store::HEADER,
+        cell: Store::CELL,
+        bare: Store::BARE,
+        node: Store::NODE,
+        event: Store::EVENT,
+    }
+}

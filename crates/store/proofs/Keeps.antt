@@ -1,0 +1,313 @@
+-- From what the private functions ensure to what the calls promise: each way out of a call keeps its promise.
+-- Assumes nothing.
+use mathlib.Core.Path.{_≡_, refl, sym, ap, subst, _∙_}
+use mathlib.Core.Logic.{_≢_}
+use mathlib.Core.Bool.{Bool, true, false}
+use Prim.Native.Nat.{ℕ, _+_, _≤_, _<_}
+use native.Mathlib.Omega.{arith}
+use mathlib.Core.Option.{Option, none}
+use mathlib.Core.List.{List, [], _∷_, _++_}
+use lib.Dec.{eqb}
+use lib.IntN.{ℤ, pos}
+use lib.ListN.{getD, length, drop, length-drop}
+use borrow.Author.Tests.{eqb-true, eqb-false, eq-eqb, ne-eqb}
+use mir.Syntax.{w32}
+use mir.Val.{SFits, toZ}
+use Rattle.rules.specs.Basic.{eqb-self}
+use Rattle.rules.specs.Tree.{binding, wind}
+use Rattle.rules.specs.Values.{Cell, unbound, value}
+use Rattle.rules.specs.Store.{home, goto}
+use Rattle.rules.specs.Moves.{Move, parentOf, route, route-length, trace}
+use Rattle.rules.specs.Route.{route-self}
+use Rattle.rules.specs.Calls.{valueAt, look-right, home-set, make, home-make, make-own, make-rest}
+use Rattle.rules.specs.Refusals.{setup}
+use Rattle.rules.specs.Demands.{goto-switches}
+use Rattle.rules.specs.Effects.{made-node, set-done}
+use Rattle.layout.specs.Limits.{sizeOf}
+use Rattle.layout.specs.Records.{vars, focus, bareC, bitsC, cellOf, nodeOf, parentN}
+use Rattle.layout.specs.Fields.{fieldsOf, past}
+use Rattle.layout.specs.View.{asCell, view, viewF}
+use Rattle.layout.specs.Sound.{Sound}
+use Rattle.layout.specs.Made.{IsMade, nextOf, IsFull}
+use Rattle.layout.specs.Becomes.{Becomes}
+use Rattle.layout.specs.Routes.{movesTo}
+use Rattle.layout.specs.Events.{eventsFrom, eventsTo}
+use Rattle.layout.specs.Writes.{setB, bindB, windB, openB}
+use Rattle.layout.specs.Events.{told}
+use Rattle.layout.specs.Laws.{cell-in}
+use Rattle.layout.specs.SoundLaws.{sound-view}
+use Rattle.layout.specs.WalkLaws.{made-seen, focus-made}
+use Rattle.layout.specs.Reading.{FoundAt, top-up, up-is}
+use Rattle.layout.specs.OpenLaws.{opens}
+use Rattle.layout.specs.GrowLaws.{set-becomes, bind-becomes, wind-becomes, can-grow, is-binding, is-wind}
+use Rattle.store.specs.declared.Answer.the-variants.{Opened, Number, Made, Switched, Setup, Damaged, NoVariable, NoEnvironment, Unbound, Full, TraceRoom, Top}
+use Rattle.store.specs.Answers.{Numbers, refusal, numbers, ofCell}
+use Rattle.store.specs.Tables.{Row, row, From, Lowest, nothing-applies, not-this, this, add-last}
+use Rattle.store.specs.Promises.{meaning, at, Answers, damagedRow, variableRow, environmentRow, valueRow, fullRow, roomRow, topRow, roomFor, entering, parentAt, Openable, Switches, LookPromise, PeekPromise, HerePromise, SetPromise, BindPromise, WindPromise, GotoPromise, BackPromise, OpenPromise}
+
+-- ---- row by row: this one applies, and nothing is changed; this one does not; none is left, and the call is done
+module _ {rs : List Row} {Same Done : Type 0} where
+  pub give : (r : Row) → r .when → 1 ≤ r .number → From (r .number) rs → Same → Answers (r ∷ rs) (refusal (r .number)) Same Done
+  give r w low from same = record { lowest = this r rs w low from; refused = λ l. (refl, same); done = λ e. absurd (omega arith) }
+
+  pub skip : {r : Row} {n : Numbers} → (r .when → ⊥) → Answers rs n Same Done → Answers (r ∷ rs) n Same Done
+  skip never h = record { lowest = not-this never (h .lowest); refused = h .refused; done = h .done }
+
+pub finish : {n : Numbers} {Same Done : Type 0} → n .code ≡ 0 → Done → Answers [] n Same Done
+finish {n} e d = record { lowest = rw e nothing-applies; refused = λ l. absurd (omega arith); done = λ z. d }
+
+-- the cell of x shows the value at the focus
+pub at-focus : (s : List ℕ) → Sound s → (x : ℕ) → x < vars s → at s (focus s) x ≡ asCell (bareC (cellOf s x))
+unfolding at meaning view viewF fieldsOf
+at-focus s ok x l = sym (look-right (view s) (sound-view s ok) x) ∙ ap (λ (c : List ℕ). asCell (bareC c)) (cell-in s x l)
+
+-- ---- a bare cell has a value, or has none
+pub no-value : (c : List ℕ) → getD c 0 0 ≡ 0 → asCell c ≡ unbound
+unfolding asCell
+no-value c e = rw (eq-eqb _ _ e)
+
+pub a-value : (c : List ℕ) → getD c 0 0 ≢ 0 → asCell c ≡ value (toZ w32 (bitsC c))
+unfolding asCell
+a-value c e = rw (ne-eqb _ _ e)
+
+pub bound : {c : Cell} {v : ℤ} → c ≡ value v → c ≡ unbound → ⊥
+bound e f = let z : _≡_ {A = ℕ} 0 1 = cc in omega arith
+
+-- what a cell answers, at the last row of look and peek
+module _ (s : List ℕ) (a x : ℕ) (c : List ℕ) (is : at s a x ≡ asCell c) where
+  abbrev Shown : Numbers → Type 0
+  Shown n = Answers (valueRow s a x ∷ []) n (Unit {0}) ((v : ℤ) × (n ≡ record { code = 0; out = v; moves = 0; events = 0 }) × (at s a x ≡ value v))
+
+  pub shows : Shown (numbers (ofCell c))
+  unfolding numbers ofCell
+  shows = go (eqb (getD c 0 0) 0) refl
+    where
+      go : (b : Bool) → eqb (getD c 0 0) 0 ≡ b → Shown (numbers (ofCell c))
+      go true e = rw e (give (valueRow s a x) (is ∙ no-value c (eqb-true _ _ e)) (omega arith) tt tt)
+      go false e =
+          let v : at s a x ≡ value (toZ w32 (bitsC c)) = is ∙ a-value c (eqb-false _ _ e) in
+          rw e (skip (bound v) (finish refl (toZ w32 (bitsC c), refl, v)))
+
+-- ---- here and look
+pub here-damaged : (s : List ℕ) → (Sound s → ⊥) → HerePromise s s (numbers Damaged)
+unfolding numbers
+here-damaged s no-store = record { same = refl; answers = give (damagedRow s) no-store (omega arith) tt tt }
+
+pub here-done : (s : List ℕ) → Sound s → (f : ℕ) → f ≡ focus s → HerePromise s s (numbers (Number f))
+unfolding numbers
+here-done s ok f e = record { same = refl; answers = skip (λ h. h ok) (finish refl (ap (λ (g : ℕ). record { code = 0; out = pos g; moves = 0; events = 0 }) e)) }
+
+module _ (s : List ℕ) (x : ℕ) where
+  pub look-damaged : (Sound s → ⊥) → LookPromise s x s (numbers Damaged)
+  unfolding numbers
+  look-damaged no-store = record { same = refl; answers = give (damagedRow s) no-store (omega arith) (omega arith, (omega arith, tt)) tt }
+
+  pub look-unknown : Sound s → vars s ≤ x → LookPromise s x s (numbers NoVariable)
+  unfolding numbers
+  look-unknown ok l = record { same = refl; answers = skip (λ h. h ok) (give (variableRow s x) l (omega arith) (omega arith, tt) tt) }
+
+  pub look-shown : Sound s → x < vars s → LookPromise s x s (numbers (ofCell (bareC (cellOf s x))))
+  look-shown ok l = record { same = refl; answers = skip (λ h. h ok) (skip (λ h. omega arith) (shows s (focus s) x (bareC (cellOf s x)) (at-focus s ok x l))) }
+
+-- ---- set
+module _ (s : List ℕ) (x : ℕ) (v : ℤ) where
+  pub set-damaged : (Sound s → ⊥) → SetPromise s x v s (numbers Damaged)
+  unfolding numbers
+  set-damaged no-store = record { answers = give (damagedRow s) no-store (omega arith) (omega arith, (omega arith, tt)) refl }
+
+  pub set-unknown : Sound s → vars s ≤ x → SetPromise s x v s (numbers NoVariable)
+  unfolding numbers
+  set-unknown ok l = record { answers = skip (λ h. h ok) (give (variableRow s x) l (omega arith) (omega arith, tt) refl) }
+
+  pub set-unbound : Sound s → x < vars s → getD (bareC (cellOf s x)) 0 0 ≡ 0 → SetPromise s x v s (numbers Unbound)
+  unfolding numbers
+  set-unbound ok l e =
+      record { answers = skip (λ h. h ok) (skip (λ h. omega arith) (give (valueRow s (focus s) x) (at-focus s ok x l ∙ no-value _ e) (omega arith) tt refl)) }
+
+  pub set-done-keeps : Sound s → x < vars s → getD (bareC (cellOf s x)) 0 0 ≢ 0 → SFits w32 v → (f : ℕ) → f ≡ focus s → SetPromise s x v (setB s x v) (numbers (Number f))
+  unfolding numbers meaning
+  set-done-keeps ok l e fits f same =
+      let b = set-becomes s ok x l v fits in
+      record {
+        answers = skip (λ h. h ok) (skip (λ h. omega arith) (skip (bound (at-focus s ok x l ∙ a-value _ e)) (finish refl (record {
+          answer = ap (λ (g : ℕ). record { code = 0; out = pos g; moves = 0; events = 0 }) same;
+          sound = b .sound;
+          kept = b .kept;
+          effect = rw (b .seen, home-set x (value v) (view s) (sound-view s ok)) (set-done x (value v) (home (view s)));
+        }))));
+      }
+
+-- ---- bind
+module _ (s : List ℕ) (x : ℕ) (v : ℤ) where
+  pub bind-damaged : (Sound s → ⊥) → BindPromise s x v s (numbers Damaged)
+  unfolding numbers
+  bind-damaged no-store = record { answers = give (damagedRow s) no-store (omega arith) (omega arith, (omega arith, tt)) refl }
+
+  pub bind-unknown : Sound s → vars s ≤ x → BindPromise s x v s (numbers NoVariable)
+  unfolding numbers
+  bind-unknown ok l = record { answers = skip (λ h. h ok) (give (variableRow s x) l (omega arith) (omega arith, tt) refl) }
+
+  pub bind-full : Sound s → x < vars s → IsFull s → BindPromise s x v s (numbers Full)
+  unfolding numbers
+  bind-full ok l h = record { answers = skip (λ h. h ok) (skip (λ h. omega arith) (give (fullRow s) h (omega arith) tt refl)) }
+
+  pub bind-done : Sound s → x < vars s → (IsFull s → ⊥) → SFits w32 v → (n : ℕ) → n ≡ nextOf s → BindPromise s x v (bindB s x v) (numbers (Made (record { node = n; events = 0 })))
+  unfolding numbers meaning at view viewF fieldsOf home nextOf focus
+  bind-done ok l space fits n same =
+      let b = bind-becomes s ok space x l v fits in
+      let can = can-grow s ok space (binding x) (is-binding x refl) in
+      let means = ap home (b .seen) ∙ home-make (value v) (view s) (sound-view s ok) can in
+      record {
+        answers = skip (λ h. h ok) (skip (λ h. omega arith) (skip space (finish refl (record {
+          answer = ap (λ (g : ℕ). record { code = 0; out = pos g; moves = 0; events = 0 }) same;
+          sound = b .sound;
+          kept = b .kept;
+          new = rw means (made-node (value v) (home (view s)) can);
+          own = rw means (make-own (value v) (home (view s)) can x (eqb-self x));
+          rest = λ y e. rw means (make-rest (value v) (home (view s)) can y (ne-eqb x y (λ q. e (sym q))));
+        }))));
+      }
+
+-- ---- peek
+module _ (s : List ℕ) (a x : ℕ) where
+  pub peek-damaged : (Sound s → ⊥) → PeekPromise s a x s (numbers Damaged)
+  unfolding numbers
+  peek-damaged no-store = record { same = refl; answers = give (damagedRow s) no-store (omega arith) (omega arith, (omega arith, (omega arith, tt))) tt }
+
+  pub peek-unknown : Sound s → vars s ≤ x → PeekPromise s a x s (numbers NoVariable)
+  unfolding numbers
+  peek-unknown ok l = record { same = refl; answers = skip (λ h. h ok) (give (variableRow s x) l (omega arith) (omega arith, (omega arith, tt)) tt) }
+
+  pub peek-unmade : Sound s → x < vars s → (IsMade s a → ⊥) → PeekPromise s a x s (numbers NoEnvironment)
+  unfolding numbers
+  peek-unmade ok l h = record { same = refl; answers = skip (λ h. h ok) (skip (λ h. omega arith) (give (environmentRow s a) h (omega arith) (omega arith, tt) tt)) }
+
+  pub peek-shown : Sound s → x < vars s → IsMade s a → {n : ℕ} {c : List ℕ} → FoundAt s a x n c → PeekPromise s a x s (numbers (ofCell c))
+  unfolding at meaning
+  peek-shown ok l made {n} {c} found =
+      record { same = refl; answers = skip (λ h. h ok) (skip (λ h. omega arith) (skip (λ h. h made) (shows s a x c (sym (found .value))))) }
+
+-- ---- wind
+module _ (s t : List ℕ) (p q : ℕ) where
+  pub wind-damaged : (Sound s → ⊥) → WindPromise s t p q s t (numbers Damaged)
+  unfolding numbers
+  wind-damaged no-store = record { answers = give (damagedRow s) no-store (omega arith) (omega arith, (omega arith, tt)) (refl, refl) }
+
+  pub wind-full : Sound s → IsFull s → WindPromise s t p q s t (numbers Full)
+  unfolding numbers
+  wind-full ok h = record { answers = skip (λ h. h ok) (give (fullRow s) h (omega arith) (omega arith, tt) (refl, refl)) }
+
+  pub wind-no-room : Sound s → (IsFull s → ⊥) → roomFor t < 1 → WindPromise s t p q s t (numbers TraceRoom)
+  unfolding numbers
+  wind-no-room ok space h = record { answers = skip (λ h. h ok) (skip space (give (roomRow t (entering s p)) h (omega arith) tt (refl, refl))) }
+
+  pub wind-done : Sound s → (IsFull s → ⊥) → 1 ≤ roomFor t
+      → WindPromise s t p q (windB s p q) (told (entering s p) t) (numbers (Made (record { node = nextOf s; events = 1 })))
+  unfolding numbers meaning at view viewF fieldsOf home nextOf focus
+  wind-done ok space h =
+      let b = wind-becomes s ok space p q in
+      let can = can-grow s ok space (wind p q) (is-wind p q refl) in
+      let means = ap home (b .seen) ∙ home-make unbound (view s) (sound-view s ok) can in
+      record {
+        answers = skip (λ h. h ok) (skip space (skip (λ l. omega arith) (finish refl (record {
+          answer = refl;
+          sound = b .sound;
+          kept = b .kept;
+          new = rw means (made-node unbound (home (view s)) can);
+          rest = λ y. rw means (make-rest unbound (home (view s)) can y refl);
+          trace = refl;
+        }))));
+      }
+
+-- ---- a switch
+module _ (s t : List ℕ) (a : ℕ) where
+  abbrev Outcome : List ℕ → List ℕ → Numbers → Type 0
+  Outcome s′ t′ n = Switches s t a s′ t′ (roomRow t (eventsTo s a) ∷ []) n
+
+  pub switch-no-room : roomFor t < length (eventsTo s a) → Outcome s t (numbers TraceRoom)
+  unfolding numbers
+  switch-no-room h = give (roomRow t (eventsTo s a)) h (omega arith) tt (refl, refl)
+
+  pub switch-done : Sound s → IsMade s a → length (eventsTo s a) ≤ roomFor t → {s′ : List ℕ} → Becomes s s′ (goto a (view s))
+      → Outcome s′ (told (eventsTo s a) t) (numbers (Switched (record { focus = a; moves = movesTo s a; events = length (eventsTo s a) })))
+  unfolding numbers view viewF fieldsOf
+  switch-done ok made room {s′} b =
+      let ms : List Move = route (view s .tree) (focus s) a in
+      let count : length ms ≡ movesTo s a = route-length (view s .tree) (focus s) a in
+      let w = goto-switches (view s) a (sound-view s ok) (made-seen s ok a made) in
+      skip (λ h. omega arith) (finish refl (record {
+        moves = ms;
+        events = eventsTo s a;
+        answer = ap (λ (m : ℕ). record { code = 0; out = pos a; moves = m; events = length (eventsTo s a) }) (sym count);
+        sound = b .sound;
+        kept = b .kept;
+        switched = rw (b .seen, count) w;
+        trace = refl;
+      }))
+
+module _ (s t : List ℕ) (a : ℕ) where
+  pub goto-damaged : (Sound s → ⊥) → GotoPromise s t a s t (numbers Damaged)
+  unfolding numbers
+  goto-damaged no-store = record { answers = give (damagedRow s) no-store (omega arith) (omega arith, (omega arith, tt)) (refl, refl) }
+
+  pub goto-unmade : Sound s → (IsMade s a → ⊥) → GotoPromise s t a s t (numbers NoEnvironment)
+  unfolding numbers
+  goto-unmade ok h = record { answers = skip (λ h. h ok) (give (environmentRow s a) h (omega arith) (omega arith, tt) (refl, refl)) }
+
+  pub goto-switched : Sound s → IsMade s a → {s′ t′ : List ℕ} {n : Numbers} → Switches s t a s′ t′ (roomRow t (eventsTo s a) ∷ []) n → GotoPromise s t a s′ t′ n
+  goto-switched ok made h = record { answers = skip (λ h. h ok) (skip (λ h. h made) h) }
+
+module _ (s t : List ℕ) where
+  pub back-damaged : (Sound s → ⊥) → BackPromise s t s t (numbers Damaged)
+  unfolding numbers
+  back-damaged no-store = record { answers = give (damagedRow s) no-store (omega arith) (omega arith, (omega arith, tt)) (refl, refl) }
+
+  -- at the top back has no events
+  top-events : Sound s → focus s ≡ 0 → length (eventsTo s (parentAt s)) ≡ 0
+  unfolding parentAt
+  top-events ok e =
+      let none-up : view s .tree .up 0 ≡ none = top-up s ok in
+      ap (λ (f : ℕ). length (eventsFrom s f (parentOf (view s .tree .up f)))) e
+      ∙ ap (λ (o : Option ℕ). length (eventsFrom s 0 (parentOf o))) none-up
+      ∙ ap (λ (ms : List Move). length (trace (view s .tree) ms)) (route-self (view s .tree) (sound-view s ok .proper) 0)
+
+  pub back-top : Sound s → focus s ≡ 0 → BackPromise s t s t (numbers Top)
+  unfolding numbers
+  back-top ok e = record { answers = skip (λ h. h ok) (skip (λ h. omega (arith, top-events ok e)) (give (topRow s) e (omega arith) tt (refl, refl))) }
+
+  pub back-switched : Sound s → focus s ≢ 0 → (p : ℕ) → p ≡ parentAt s → {s′ t′ : List ℕ} {n : Numbers} → Switches s t p s′ t′ (roomRow t (eventsTo s p) ∷ []) n → BackPromise s t s′ t′ n
+  back-switched ok low p e {s′} {t′} {n} h =
+      let w = subst (λ (a : ℕ). Switches s t a s′ t′ (roomRow t (eventsTo s a) ∷ []) n) e h in
+      record { answers = skip (λ h. h ok) (record { lowest = add-last low (w .lowest); refused = w .refused; done = w .done }) }
+
+-- ---- open
+module _ (v n : ℕ) (tops s : List ℕ) where
+  pub open-setup : (Openable v n tops s → ⊥) → OpenPromise v n tops s s (numbers Setup)
+  unfolding numbers
+  open-setup h = record { answers = give (row setup (Openable v n tops s → ⊥)) h (omega arith) tt refl }
+
+  pub open-done : Openable v n tops s → OpenPromise v n tops s (openB v n tops ++ drop (sizeOf v n) s) (numbers Opened)
+  unfolding numbers at meaning past
+  open-done ok =
+      let o = opens v n tops (drop (sizeOf v n) s) (ok .fits) (ok .proper) in
+      record {
+        answers = skip (λ h. h ok) (finish refl (record {
+          answer = refl;
+          sound = o .sound;
+          vars = o .vars;
+          nodes = o .room;
+          only-top = o .only-top;
+          focus = o .focus;
+          values = λ x l. o .values 0 x l;
+          long = o .long ∙ rest-length;
+          past = rw (o .vars, o .room) at (o .past);
+        }));
+      }
+    where
+      rest-length : sizeOf v n + length (drop (sizeOf v n) s) ≡ length s
+      rest-length = simp length-drop (omega (arith, ok .long))
+
+-- below the top the focus's parent is the one that its record names
+pub parent-at : (s : List ℕ) → Sound s → focus s ≢ 0 → parentAt s ≡ parentN (nodeOf s (focus s))
+unfolding parentAt
+parent-at s ok low = ap parentOf (up-is s ok (focus s) (omega arith) (focus-made s ok))

@@ -1,0 +1,26 @@
+use mathlib.Core.Path.{ap, _∙_}
+use mir.Syntax.{w32}
+use mir.ValLaws.{toZ-ofZ}
+use borrow.Author.Tests.{eq-eqb, ne-eqb}
+use Rattle.store.specs.declared.Answer.the-variants.{Value}
+use Rattle.store.specs.Answers.{ofCell}
+use borrow.Author.Needs.{needs}
+use Rattle.store.proofs.answered.Statement.{statement}
+use Rattle.store.proofs.answered.Tie as tie
+
+array-read-if1 : tie.Need-array-read-if1
+array-read-if1 c = search needs
+
+returns : tie.Need-returns
+unfolding ofCell
+returns c = rw (eq-eqb _ _ (c .if1 .taken))
+
+value-of-requires : tie.Need-value-of-requires
+value-of-requires c κs = search needs
+
+returns-2 : tie.Need-returns-2
+unfolding ofCell
+returns-2 c = rw (ne-eqb _ _ (c .before .if1 .left)) (ap Value (toZ-ofZ w32 (c .value-of .result) (record { sfits = c .value-of .ok }) ∙ c .value-of .ensures))
+
+pub answered-spec : {M : Type 1} → statement M
+answered-spec = tie.close (tie.spec array-read-if1 returns value-of-requires returns-2)

@@ -1,0 +1,71 @@
+-- Each test that fails refutes its clause; where the first three hold, the last one decides.
+use mathlib.Core.Path.{sym, _∙_}
+use native.Mathlib.Omega.{arith}
+use borrow.Author.Needs.{needs}
+use Rattle.layout.specs.Sound.{Shape, BlanksOk}
+use Rattle.layout.specs.Fields.{fieldsOf}
+use Rattle.layout.specs.SoundLaws.{headed-fit}
+use Rattle.layout.specs.Laws.{node-in}
+use Rattle.layout.specs.CheckLaws.{held, refuted, says-map}
+use Rattle.store.proofs.check.shape_ok.Statement.{statement}
+use Rattle.store.proofs.check.shape_ok.Tie as tie
+
+cells-ok-requires : tie.Need-cells-ok-requires
+cells-ok-requires c κs = search needs
+
+returns : tie.Need-returns
+returns c = λ ok. refuted (c .before .cells-ok .result) (c .if1 .taken) (c .before .cells-ok .ensures) (ok .cells)
+
+node-requires : tie.Need-node-requires
+unfolding fieldsOf
+node-requires c κs = (headed-fit _ (c .before .before .before .pre), omega arith)
+
+top-ok-requires : tie.Need-top-ok-requires
+top-ok-requires c κs = search needs
+
+returns-2 : tie.Need-returns-2
+unfolding fieldsOf
+returns-2 c =
+    let s = c .before .before .before .before .before .before .args .s .now in
+    λ ok. refuted (c .before .top-ok .result) (c .if2 .taken) (c .before .top-ok .ensures) (c .before .before .node .ensures .0 ∙ sym (node-in s 0 (omega arith)) ∙ ok .top)
+
+nodes-ok-requires : tie.Need-nodes-ok-requires
+nodes-ok-requires c κs = search needs
+
+returns-3 : tie.Need-returns-3
+returns-3 c = λ ok. refuted (c .before .nodes-ok .result) (c .if3 .taken) (c .before .nodes-ok .ensures) (ok .nodes)
+
+blanks-ok-requires : tie.Need-blanks-ok-requires
+blanks-ok-requires c κs = search needs
+
+returns-4 : tie.Need-returns-4
+unfolding fieldsOf
+returns-4 c =
+    let nodes = c .before .before in
+    let top = nodes .before .before in
+    let cells = top .before .before .before in
+    let start = cells .before .before in
+    let s = start .args .s .now in
+    let all : BlanksOk (fieldsOf s) → Shape (fieldsOf s) = λ b. record {
+      head = start .pre .head;
+      cells = held (cells .cells-ok .result) (top .before .before .if1 .left) (cells .cells-ok .ensures);
+      top = node-in s 0 (omega arith) ∙ sym (top .before .node .ensures .0) ∙ held (top .top-ok .result) (nodes .before .if2 .left) (top .top-ok .ensures);
+      nodes = held (nodes .nodes-ok .result) (c .before .if3 .left) (nodes .nodes-ok .ensures);
+      blanks = b;
+    } in
+    let last : Shape (fieldsOf s) → BlanksOk (fieldsOf s) = λ ok. ok .blanks in
+    says-map (c .blanks-ok .result) all last (c .blanks-ok .ensures)
+
+pub shape-ok-spec : {M : Type 1} → statement M
+shape-ok-spec =
+    tie.close
+    (tie.spec
+    cells-ok-requires
+    returns
+    node-requires
+    top-ok-requires
+    returns-2
+    nodes-ok-requires
+    returns-3
+    blanks-ok-requires
+    returns-4)

@@ -1,0 +1,62 @@
+-- The flag is 0 exactly where all bytes passed are zero.
+use mathlib.Core.Logic.{⊎-elim}
+use mathlib.Core.Path.{_≡_, refl, subst}
+use Prim.Native.Nat.{ℕ, _-_, _≤_}
+use native.Mathlib.Omega.{arith}
+use lib.Dec.{eqb}
+use lib.ListN.{length}
+use borrow.Author.Needs.{needs}
+use Rattle.layout.specs.Sound.{Says}
+use Rattle.layout.specs.CheckLaws.{Zeros, says-map, zeros-on, zeros-off, zeros-list, list-zeros}
+use Rattle.store.proofs.check.zeros.Statement.{statement}
+use Rattle.store.proofs.check.zeros.Tie as tie
+
+abbrev Inv-loop : tie.InvT-loop
+Inv-loop p other₀ i₀ other i = (i ≤ length p) × Says (eqb other 0) (Zeros p 0 i)
+
+abbrev μ-loop : tie.MeasureT-loop
+μ-loop p other₀ i₀ other i = length p - i
+
+loop-holds : tie.Need-loop-holds Inv-loop μ-loop
+loop-holds c = (omega arith, λ j l h. absurd (omega arith))
+
+shared-slice-read-if1 : tie.Need-shared-slice-read-if1 Inv-loop μ-loop
+shared-slice-read-if1 c = search needs
+
+add-i : tie.Need-add-i Inv-loop μ-loop
+add-i c = search needs
+
+loop-less : tie.Need-loop-less Inv-loop μ-loop
+loop-less c = search needs
+
+loop-again : tie.Need-loop-again Inv-loop μ-loop
+loop-again c =
+    let at = c .before .before .before in
+    let p = at .before .args .p .now in
+    let i = at .loop .i in
+    let other = at .loop .other in
+    ⊎-elim
+    (λ w. (omega arith, rw (w .1) (zeros-off p i (w .0 .taken))))
+    (λ w. (omega arith, rw (w .1) (zeros-on p i other (w .0 .left) (at .loop .inv .1))))
+    (c .if1 .came)
+
+returns : tie.Need-returns Inv-loop μ-loop
+returns c =
+    let p = c .before .before .args .p .now in
+    let other = c .before .loop .other in
+    let e : c .before .loop .i ≡ length p = omega arith in
+    says-map (eqb other 0) (zeros-list p (length p) refl) (list-zeros p (length p))
+    (subst (λ (i : ℕ). Says (eqb other 0) (Zeros p 0 i)) e (c .before .loop .inv .1))
+
+pub zeros-spec : {M : Type 1} → statement M
+zeros-spec =
+    tie.close
+    (tie.spec
+    Inv-loop
+    μ-loop
+    loop-holds
+    shared-slice-read-if1
+    add-i
+    loop-less
+    loop-again
+    returns)

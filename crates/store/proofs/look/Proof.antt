@@ -1,0 +1,61 @@
+-- `look` keeps its promise: the cell of x shows the value at the focus. Assumes nothing.
+use mathlib.Core.Path.{ap, _∙_}
+use Prim.Native.Nat.{_<_}
+use native.Mathlib.Omega.{arith}
+use Rattle.layout.specs.Records.{vars}
+use Rattle.layout.specs.Sound.{Sound}
+use Rattle.layout.specs.SoundLaws.{sound-fit}
+use Rattle.layout.specs.CheckLaws.{held, refuted}
+use Rattle.layout.specs.Records.{bareC}
+use Rattle.store.specs.Answers.{ofCell}
+use Rattle.store.proofs.Keeps.{look-damaged, look-unknown, look-shown}
+use borrow.Author.Needs.{needs}
+use Rattle.store.proofs.look.Statement.{statement}
+use Rattle.store.proofs.look.Tie as tie
+
+-- past the first test the store is sound
+ok : (c : tie.Else1) → Sound (c .before .before .before .args .s .now)
+ok c = held (c .before .sound .result) (c .if1 .left) (c .before .sound .ensures)
+
+-- past the second the variable is known
+known : (c : tie.Else2) → c .before .before .before .before .before .args .x < vars (c .before .before .before .before .before .args .s .now)
+known c = omega (arith, c .before .vars-of .ensures .0)
+
+sound-requires : tie.Need-sound-requires
+sound-requires c κs = search needs
+
+returns : tie.Need-returns
+returns c = look-damaged _ _ (refuted (c .before .sound .result) (c .if1 .taken) (c .before .sound .ensures))
+
+vars-of-requires : tie.Need-vars-of-requires
+vars-of-requires c κs = let fit = sound-fit _ (ok c) in omega (arith, fit .long)
+
+returns-2 : tie.Need-returns-2
+returns-2 c = look-unknown _ _ (ok (c .before .before)) (omega (arith, c .before .vars-of .ensures .0))
+
+cell-requires : tie.Need-cell-requires
+cell-requires c κs = (sound-fit _ (ok (c .before .before)), known c)
+
+bare-of-requires : tie.Need-bare-of-requires
+bare-of-requires c κs = search needs
+
+answered-requires : tie.Need-answered-requires
+answered-requires c κs = search needs
+
+returns-3 : tie.Need-returns-3
+returns-3 c =
+    let cell = c .answered .ensures ∙ ap ofCell (c .before .bare-of .ensures ∙ ap bareC (c .before .before .cell .ensures .0)) in
+    rw cell (look-shown _ _ (ok (c .before .before .before .before .before)) (known (c .before .before .before)))
+
+pub look-spec : {M : Type 1} → statement M
+look-spec =
+    tie.close
+    (tie.spec
+    sound-requires
+    returns
+    vars-of-requires
+    returns-2
+    cell-requires
+    bare-of-requires
+    answered-requires
+    returns-3)

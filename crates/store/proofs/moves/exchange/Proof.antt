@@ -1,0 +1,45 @@
+-- `exchange` meets its contract: the chain of its calls is `swapB`.
+use native.Mathlib.Omega.{arith}
+use borrow.Author.Needs.{needs}
+use Rattle.layout.specs.Writes.{swapB}
+use Rattle.layout.specs.WalkLaws.{swapped-fits}
+use Rattle.store.proofs.moves.exchange.Statement.{statement}
+use Rattle.store.proofs.moves.exchange.Tie as tie
+
+var-of-requires : tie.Need-var-of-requires
+var-of-requires c κs = search needs
+
+cell-requires : tie.Need-cell-requires
+cell-requires c κs = search needs
+
+bare-of-requires : tie.Need-bare-of-requires
+bare-of-requires c κs = search needs
+
+swap-at-requires : tie.Need-swap-at-requires
+swap-at-requires c κs = search needs
+
+set-cell-requires : tie.Need-set-cell-requires
+set-cell-requires c κs =
+    let b = c .before .before .before in
+    let st = b .before .before .before .before .before .before .before .before in
+    let k = swapped-fits _ _ _ _ _ (st .pre .0) (st .pre .1 .0) (b .swap-at .ensures .1) in
+    (k .0, omega arith)
+
+same-length : tie.Need-same-length
+same-length c = search needs
+
+returns : tie.Need-returns
+unfolding swapB
+returns c = cc
+
+pub exchange-spec : {M : Type 1} → statement M
+exchange-spec =
+    tie.close
+    (tie.spec
+    var-of-requires
+    cell-requires
+    bare-of-requires
+    swap-at-requires
+    set-cell-requires
+    same-length
+    returns)

@@ -1,0 +1,25 @@
+use borrow.Author.Needs.{needs}
+use Rattle.layout.specs.Bytes.{u16, part}
+use Rattle.layout.specs.Records.{focus, headOf}
+use Rattle.store.proofs.records.focus_of.Statement.{statement}
+use Rattle.store.proofs.records.focus_of.Tie as tie
+
+sub-u16-at : tie.Need-sub-u16-at
+sub-u16-at c = search needs
+
+part-u16-at-start : tie.Need-part-u16-at-start
+part-u16-at-start c = search needs
+
+part-u16-at-end : tie.Need-part-u16-at-end
+part-u16-at-end c = search needs
+
+u16-at-requires : tie.Need-u16-at-requires
+u16-at-requires c κs = search needs
+
+returns : tie.Need-returns
+unfolding focus u16 headOf part
+returns c = search needs
+
+pub focus-of-spec : {M : Type 1} → statement M
+focus-of-spec =
+    tie.close (tie.spec sub-u16-at part-u16-at-start part-u16-at-end u16-at-requires returns)

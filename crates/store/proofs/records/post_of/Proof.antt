@@ -1,0 +1,18 @@
+use native.Mathlib.Omega.{arith}
+use borrow.Author.Needs.{needs}
+use Rattle.layout.specs.Records.{postN}
+use Rattle.store.proofs.records.post_of.Statement.{statement}
+use Rattle.store.proofs.records.post_of.Tie as tie
+
+node-requires : tie.Need-node-requires
+node-requires c κs = search needs
+
+u16-at-requires : tie.Need-u16-at-requires
+u16-at-requires c κs = search needs
+
+returns : tie.Need-returns
+unfolding postN
+returns c = (cc, omega arith)
+
+pub post-of-spec : {M : Type 1} → statement M
+post-of-spec = tie.close (tie.spec node-requires u16-at-requires returns)

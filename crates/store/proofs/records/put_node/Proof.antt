@@ -1,0 +1,52 @@
+-- Each store is one of the definitions'; over twelve bytes written out, what they leave computes to the node.
+use mathlib.Core.List.{List}
+use mathlib.Core.Path.{_≡_, refl}
+use Prim.Native.Nat.{ℕ}
+use lib.ListN.{length}
+use borrow.Author.Needs.{needs}
+use Rattle.layout.specs.Records.{swapN, nodeB}
+use Rattle.layout.specs.Bytes.{put16, by-tab}
+use Rattle.layout.specs.Limits.{nodeSize}
+use Rattle.store.proofs.records.put_node.Statement.{statement}
+use Rattle.store.proofs.records.put_node.Tie as tie
+
+written : (k up a b : ℕ) (c p : List ℕ) → length p ≡ nodeSize → put16 (put16 (put16 (swapN p k c) 2 up) 4 a) 6 b ≡ nodeB k up a b c
+unfolding put16 swapN nodeB
+written k up a b c = by-tab nodeSize (λ p. put16 (put16 (put16 (swapN p k c) 2 up) 4 a) 6 b ≡ nodeB k up a b c) (λ f. refl)
+
+swap-node-requires : tie.Need-swap-node-requires
+swap-node-requires c κs = search needs
+
+put16-at-requires : tie.Need-put16-at-requires
+put16-at-requires c κs = search needs
+
+put16-at-requires-2 : tie.Need-put16-at-requires-2
+put16-at-requires-2 c κs = search needs
+
+put16-at-requires-3 : tie.Need-put16-at-requires-3
+put16-at-requires-3 c κs = search needs
+
+same-length : tie.Need-same-length
+same-length c = search needs
+
+returns : tie.Need-returns
+returns c =
+    let third = c .before .before in
+    let second = third .before .before .before .before in
+    let first = second .before .before .before .before in
+    let swapped = first .before .before .before .before in
+    let start = swapped .before .before .before in
+    let args = start .args in
+    let all = written (args .k) (args .up) (args .a) (args .b) (args .c) (args .p .now) (start .pre .0) in
+    cc (swapped .swap-node .ensures .1, first .put16-at .ensures, second .put16-at2 .ensures, third .put16-at3 .ensures)
+
+pub put-node-spec : {M : Type 1} → statement M
+put-node-spec =
+    tie.close
+    (tie.spec
+    swap-node-requires
+    put16-at-requires
+    put16-at-requires-2
+    put16-at-requires-3
+    same-length
+    returns)

@@ -1,0 +1,35 @@
+use borrow.Author.Needs.{needs}
+use Rattle.layout.specs.Bytes.{splice, part}
+use Rattle.layout.specs.Records.{withMade, withHead, headOf}
+use Rattle.store.proofs.records.set_made.Statement.{statement}
+use Rattle.store.proofs.records.set_made.Tie as tie
+
+sub-put16-at : tie.Need-sub-put16-at
+sub-put16-at c = search needs
+
+part-put16-at-start : tie.Need-part-put16-at-start
+part-put16-at-start c = search needs
+
+part-put16-at-end : tie.Need-part-put16-at-end
+part-put16-at-end c = search needs
+
+put16-at-requires : tie.Need-put16-at-requires
+put16-at-requires c κs = search needs
+
+same-length : tie.Need-same-length
+same-length c = search needs
+
+returns : tie.Need-returns
+unfolding withMade withHead headOf splice part
+returns c = rw (c .before .before .put16-at .ensures)
+
+pub set-made-spec : {M : Type 1} → statement M
+set-made-spec =
+    tie.close
+    (tie.spec
+    sub-put16-at
+    part-put16-at-start
+    part-put16-at-end
+    put16-at-requires
+    same-length
+    returns)

@@ -1,0 +1,64 @@
+-- `switch_to` keeps what goto and back share: the survey counts what tell writes and what the walk moves. Assumes nothing.
+use native.Mathlib.Omega.{arith}
+use Rattle.layout.specs.SoundLaws.{sound-fit}
+use Rattle.layout.specs.WalkLaws.{made-room}
+use Rattle.layout.specs.RouteLaws.{few-moves, few-events}
+use Rattle.store.specs.Promises.{roomFor}
+use Rattle.store.proofs.Keeps.{switch-no-room, switch-done}
+use borrow.Author.Needs.{needs}
+use Rattle.store.proofs.switch_to.Statement.{statement}
+use Rattle.store.proofs.switch_to.Tie as tie
+
+survey-requires : tie.Need-survey-requires
+survey-requires c κs = search needs
+
+same-length : tie.Need-same-length
+same-length c = search needs
+
+returns : tie.Need-returns
+unfolding roomFor
+returns c = switch-no-room _ _ _ (rw (← (c .before .survey .ensures .1 .1)) (c .if1 .taken))
+
+tell-requires : tie.Need-tell-requires
+tell-requires c κs = search needs
+
+walk-requires : tie.Need-walk-requires
+walk-requires c κs = search needs
+
+cast-t19 : tie.Need-cast-t19
+cast-t19 c = let st = c .before .before .before .before .before .before .before .before .before .before .before .before .before .before in record { fits = omega (arith, made-room _ (st .pre .0) _ (st .pre .1), sound-fit _ (st .pre .0) .n) }
+
+cast-t20 : tie.Need-cast-t20
+cast-t20 c = let st = c .before .before .before .before .before .before .before .before .before .before .before .before .before .before .before in rw (c .before .before .before .before .before .before .before .before .before .before .before .survey .ensures .1 .0) (record { fits = omega (arith, few-moves _ (st .pre .0) _ (st .pre .1)) })
+
+cast-t21 : tie.Need-cast-t21
+cast-t21 c = let st = c .before .before .before .before .before .before .before .before .before .before .before .before .before .before .before in rw (c .before .before .before .before .before .before .before .before .before .before .before .survey .ensures .1 .1) (record { fits = omega (arith, few-events _ (st .pre .0) _ (st .pre .1)) })
+
+same-length-2 : tie.Need-same-length-2
+same-length-2 c = search needs
+
+same-length-3 : tie.Need-same-length-3
+same-length-3 c = search needs
+
+returns-2 : tie.Need-returns-2
+unfolding roomFor
+returns-2 c =
+    let st = c .before .before .before .before .before .before .before .before .before .before .before .before .before .before .before in
+    let way = c .before .before .before .before .before .before .before .before .before .before .before .survey .ensures in
+    rw (way .1 .0, way .1 .1, c .before .before .before .before .before .before .before .tell .ensures) (switch-done _ _ _ (st .pre .0) (st .pre .1) (rw (way .1 .1) at (c .before .before .before .before .before .before .before .before .before .before .if1 .left)) (c .before .before .before .walk .ensures))
+
+pub switch-to-spec : {M : Type 1} → statement M
+switch-to-spec =
+    tie.close
+    (tie.spec
+    survey-requires
+    same-length
+    returns
+    tell-requires
+    walk-requires
+    cast-t19
+    cast-t20
+    cast-t21
+    same-length-2
+    same-length-3
+    returns-2)

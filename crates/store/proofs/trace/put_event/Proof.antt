@@ -1,0 +1,32 @@
+-- `put_event` meets its contract: over five bytes written out, what the stores leave computes to the event.
+use mathlib.Core.Path.{_∙_}
+use native.Mathlib.Omega.{arith}
+use lib.ListN.{length-set}
+use borrow.Author.Needs.{needs}
+use Rattle.layout.specs.EventLaws.{event-put}
+use Rattle.store.proofs.trace.put_event.Statement.{statement}
+use Rattle.store.proofs.trace.put_event.Tie as tie
+
+slice-write-p : tie.Need-slice-write-p
+slice-write-p c = search needs
+
+put16-at-requires : tie.Need-put16-at-requires
+put16-at-requires c κs = simp length-set (omega arith)
+
+put16-at-requires-2 : tie.Need-put16-at-requires-2
+put16-at-requires-2 c κs = let k = c .before .before .before .put16-at .kept .0 in omega (arith, k, simp length-set at k)
+
+same-length : tie.Need-same-length
+same-length c = c .before .before .put16-at2 .kept .0 ∙ (c .before .before .before .before .before .before .put16-at .kept .0 ∙ simp length-set)
+
+returns : tie.Need-returns
+returns c =
+    let second = c .before .before in
+    let first = second .before .before .before .before in
+    let start = first .before .before .before in
+    let all = event-put (start .args .d) (start .args .thunk) (start .args .place) (start .args .p .now) (start .pre .0) in
+    cc
+
+pub put-event-spec : {M : Type 1} → statement M
+put-event-spec =
+    tie.close (tie.spec slice-write-p put16-at-requires put16-at-requires-2 same-length returns)

@@ -1,0 +1,79 @@
+-- `tell_entered` meets its contract: a wind has one event, any other node none.
+use mathlib.Core.List.{[]}
+use native.Mathlib.Omega.{arith}
+use borrow.Author.Needs.{needs}
+use Rattle.layout.specs.SoundLaws.{sound-fit}
+use Rattle.layout.specs.WalkLaws.{made-room}
+use Rattle.layout.specs.TellLaws.{entered-one, entered-told, entered-kept}
+use Rattle.store.proofs.trace.tell_entered.Statement.{statement}
+use Rattle.store.proofs.trace.tell_entered.Tie as tie
+
+kind-of-requires : tie.Need-kind-of-requires
+kind-of-requires c κs = let (ok, made) = c .before .before .pre .0 in (sound-fit _ ok, made-room _ ok _ made)
+
+sub-note : tie.Need-sub-note
+sub-note c =
+    let st = c .before .before .before .before .before .before in
+    let (ok, made) = st .pre .0 in
+    let one = entered-one _ ok (st .args .n) made (omega arith) (omega arith) [] [] in
+    omega (arith, st .pre .1)
+
+var-of-requires : tie.Need-var-of-requires
+var-of-requires c κs = let (ok, made) = c .before .before .before .before .before .before .pre .0 in (sound-fit _ ok, made-room _ ok _ made)
+
+parent-of-requires : tie.Need-parent-of-requires
+parent-of-requires c κs = let (ok, made) = c .before .before .before .before .before .before .before .pre .0 in (sound-fit _ ok, made-room _ ok _ made)
+
+note-requires : tie.Need-note-requires
+note-requires c κs =
+    let st = c .before .before .before .before .before .before .before .before in
+    let (ok, made) = st .pre .0 in
+    let one = entered-one _ ok (st .args .n) made (omega arith) (omega arith) [] [] in
+    omega (arith, st .pre .1)
+
+sub-result : tie.Need-sub-result
+sub-result c =
+    let st = c .before .before .before .before .before .before .before .before .before .before .before in
+    let (ok, made) = st .pre .0 in
+    let one = entered-one _ ok (st .args .n) made (omega arith) (omega arith) [] [] in
+    omega (arith, st .pre .1)
+
+same-length : tie.Need-same-length
+same-length c = search needs
+
+returns : tie.Need-returns
+returns c =
+    let done = c .before .before in
+    let st = done .before .before .before .before .before .before .before .before .before in
+    let (ok, made) = st .pre .0 in
+    let one = entered-one _ ok (st .args .n) made (omega arith) (omega arith) [] [] in
+    (omega (arith, st .pre .1), entered-told _ ok _ made (omega arith) (omega arith) _ _ _ _ _ (done .before .before .var-of .ensures .0) (done .before .parent-of .ensures .0) (done .note .ensures))
+
+returns-2 : tie.Need-returns-2
+returns-2 c =
+    let st = c .before .before .before .before in
+    let (ok, made) = st .pre .0 in
+    let (same, bytes) = entered-kept _ ok _ made (λ l h. omega arith) (st .args .e) (st .args .t .now) in
+    (same, bytes)
+
+returns-3 : tie.Need-returns-3
+returns-3 c =
+    let st = c .before .before .before .before .before in
+    let (ok, made) = st .pre .0 in
+    let (same, bytes) = entered-kept _ ok _ made (λ l h. omega arith) (st .args .e) (st .args .t .now) in
+    (same, bytes)
+
+pub tell-entered-spec : {M : Type 1} → statement M
+tell-entered-spec =
+    tie.close
+    (tie.spec
+    kind-of-requires
+    sub-note
+    var-of-requires
+    parent-of-requires
+    note-requires
+    sub-result
+    same-length
+    returns
+    returns-2
+    returns-3)

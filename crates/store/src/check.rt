@@ -1,0 +1,262 @@
+// Whether a store is sound: document 01's sentence, clause by clause, each answered both ways. Linear in V + N.
+ghost use mathlib.Core.Path.{_≡_};
+ghost use mathlib.Core.Bool.{Bool, true, false};
+ghost use mathlib.Core.List.{List};
+ghost use Prim.Native.Nat.{ℕ, _+_, _*_, _<_, _≤_};
+ghost use lib.ListN.{length, getD, replicate};
+ghost use Rattle.rules.specs.Modes.{count};
+ghost use Rattle.layout.specs.Limits.{bareSize, nodeSize};
+ghost use Rattle.layout.specs.Records.{vars, made, ProperCell, bareC, topC, kindN, varN, postN, storedN, blankCell, topNode};
+ghost use Rattle.layout.specs.Kinds.{isIn};
+ghost use Rattle.layout.specs.Fields.{Fit, fieldsOf, nodes};
+ghost use Rattle.layout.specs.Sound.{Says, NodeOk, HeadOk, Headed, CellsOk, NodesOk, BlanksOk, Shape, Ins, Sound};
+use crate::number::u16_at;
+use crate::records::bare_of;
+use crate::records::cell;
+use crate::records::focus_of;
+use crate::records::kind_of;
+use crate::records::made_of;
+use crate::records::node;
+use crate::records::node_at;
+use crate::records::parent_of;
+use crate::records::room_of;
+use crate::records::stored_of;
+use crate::records::vars_of;
+use layout::Store;
+
+// The buffer is long enough; V and N are in range; 1 ≤ made ≤ N; focus < made.
+fn head_ok(s: &[u8]) -> bool
+    ensures { λ r. ⌜ Says r (Headed (now (s .entry))) ⌝ }
+{
+    if s.len() < Store::HEADER {
+        return false;
+    }
+    let v = vars_of(s);
+    let n = room_of(s);
+    let m = made_of(s);
+    if v < 1 || Store::VARS < v {
+        return false;
+    }
+    if n < 1 || Store::NODES < n {
+        return false;
+    }
+    if s.len() < Store::HEADER + Store::CELL * v + Store::NODE * n {
+        return false;
+    }
+    if n < m {
+        return false;
+    }
+    focus_of(s) < m
+}
+
+// Whether every byte is zero: all are looked at, with no early way out, so that the compiler can take many at a time.
+fn zeros(p: &[u8]) -> bool
+    ensures { λ r. ⌜ Says r (now (p .entry) ≡ replicate (length (now (p .entry))) 0) ⌝ }
+{
+    let mut other: u8 = 0;
+    let mut i = 0;
+    while i < p.len() {
+        if p[i] != 0 {
+            other = 1;
+        }
+        i += 1;
+    }
+    other == 0
+}
+
+// State 0 and all zero, or state 1.
+fn proper(c: [u8; Store::BARE]) -> bool
+    ensures { λ r. ⌜ Says r (ProperCell c) ⌝ }
+{
+    let k = c[0];
+    match k {
+        0 => blank(c),
+        1 => true,
+        _ => false,
+    }
+}
+
+fn blank(c: [u8; Store::BARE]) -> bool
+    ensures { λ r. ⌜ Says r (c ≡ blankCell) ⌝ }
+{
+    if c[0] != 0 || c[1] != 0 {
+        return false;
+    }
+    if c[2] != 0 || c[3] != 0 {
+        return false;
+    }
+    c[4] == 0
+}
+
+fn cells_ok(s: &[u8]) -> bool
+    requires { ⌜ Headed (now s) ⌝ }
+    ensures { λ r. ⌜ Says r (CellsOk (fieldsOf (now (s .entry)))) ⌝ }
+{
+    let v = vars_of(s);
+    let mut x = 0;
+    while x < v {
+        if !proper(bare_of(cell(s, x))) {
+            return false;
+        }
+        x += 1;
+    }
+    true
+}
+
+// Open's top cells: each proper, where there are 5V bytes.
+pub(crate) fn tops_ok(tops: &[u8], v: usize) -> bool
+    requires { ⌜ length (now tops) ≡ bareSize * v ⌝ }
+    ensures { λ r. ⌜ Says r ((x : ℕ) → x < v → ProperCell (topC (now (tops .entry)) x)) ⌝ }
+{
+    let mut x = 0;
+    while x < v {
+        let a = Store::BARE * x;
+        let e = a + Store::BARE;
+        if !proper(bare_of(&tops[a..e])) {
+            return false;
+        }
+        x += 1;
+    }
+    true
+}
+
+// Kind 1 and zero otherwise.
+fn top_ok(p: &[u8]) -> bool
+    requires { ⌜ length (now p) ≡ nodeSize ⌝ }
+    ensures { λ r. ⌜ Says r (now (p .entry) ≡ topNode) ⌝ }
+{
+    if p[0] != 1 {
+        return false;
+    }
+    zeros(&p[1..])
+}
+
+// A binding's variable, the zero in place of the postlude, and its stored cell.
+fn binding_ok(p: &[u8], v: usize) -> bool
+    requires { ⌜ length (now p) ≡ nodeSize ⌝ }
+    ensures { λ r. ⌜ Says r ((varN (now (p .entry)) < v) × ((postN (now (p .entry)) ≡ 0) × ProperCell (storedN (now (p .entry))))) ⌝ }
+{
+    if v <= u16_at(p, 4) {
+        return false;
+    }
+    if u16_at(p, 6) != 0 {
+        return false;
+    }
+    proper(stored_of(p))
+}
+
+// The node n, where there are v variables.
+fn node_ok(p: &[u8], n: usize, v: usize) -> bool
+    requires { ⌜ length (now p) ≡ nodeSize ⌝ }
+    ensures { λ r. ⌜ Says r (NodeOk v n (now (p .entry))) ⌝ }
+{
+    if n <= u16_at(p, 2) {
+        return false;
+    }
+    let k = p[0];
+    match k {
+        2..=3 => binding_ok(p, v),
+        4..=5 => blank(stored_of(p)),
+        _ => false,
+    }
+}
+
+fn nodes_ok(s: &[u8]) -> bool
+    requires { ⌜ Headed (now s) ⌝ }
+    ensures { λ r. ⌜ Says r (NodesOk (fieldsOf (now (s .entry)))) ⌝ }
+{
+    let v = vars_of(s);
+    let m = made_of(s);
+    let mut n = 1;
+    while n < m {
+        if !node_ok(node(s, n), n, v) {
+            return false;
+        }
+        n += 1;
+    }
+    true
+}
+
+// Every node from made on is all zero.
+fn blanks_ok(s: &[u8]) -> bool
+    requires { ⌜ Headed (now s) ⌝ }
+    ensures { λ r. ⌜ Says r (BlanksOk (fieldsOf (now (s .entry)))) ⌝ }
+{
+    let a = node_at(s, made_of(s));
+    let e = node_at(s, room_of(s));
+    zeros(&s[a..e])
+}
+
+fn shape_ok(s: &[u8]) -> bool
+    requires { ⌜ Headed (now s) ⌝ }
+    ensures { λ r. ⌜ Says r (Shape (fieldsOf (now (s .entry)))) ⌝ }
+{
+    if !cells_ok(s) {
+        return false;
+    }
+    if !top_ok(node(s, 0)) {
+        return false;
+    }
+    if !nodes_ok(s) {
+        return false;
+    }
+    blanks_ok(s)
+}
+
+// In, of a binding or a wind.
+pub(crate) fn is_in(k: u8) -> bool
+    ensures { λ r. ⌜ r ≡ isIn k ⌝ }
+{
+    match k {
+        3 | 5 => true,
+        _ => false,
+    }
+}
+
+// How many nodes are in.
+fn count_in(s: &[u8]) -> usize
+    requires { ⌜ Headed (now s) ⌝ }
+    ensures { λ r. ⌜ r ≡ count (λ n. isIn (kindN (nodes (now (s .entry)) n))) (made (now (s .entry))) ⌝ }
+{
+    let m = made_of(s);
+    let mut c = 0;
+    let mut n = 0;
+    while n < m {
+        if is_in(kind_of(s, n)) {
+            c += 1;
+        }
+        n += 1;
+    }
+    c
+}
+
+// From the focus up every node is in, and there are as many as are in at all: so exactly the path is in.
+fn ins_ok(s: &[u8]) -> bool
+    requires { ⌜ Headed (now s) ⌝ }
+    requires { ⌜ Shape (fieldsOf (now s)) ⌝ }
+    ensures { λ r. ⌜ Says r (Ins (fieldsOf (now (s .entry)))) ⌝ }
+{
+    let all = count_in(s);
+    let mut f = focus_of(s);
+    let mut n = 0;
+    while f > 0 {
+        if !is_in(kind_of(s, f)) {
+            return false;
+        }
+        n += 1;
+        f = parent_of(s, f);
+    }
+    n == all
+}
+
+pub(crate) fn sound(s: &[u8]) -> bool
+    ensures { λ r. ⌜ Says r (Sound (now (s .entry))) ⌝ }
+{
+    if !head_ok(s) {
+        return false;
+    }
+    if !shape_ok(s) {
+        return false;
+    }
+    ins_ok(s)
+}

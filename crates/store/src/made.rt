@@ -1,0 +1,50 @@
+// Which numbers are environments, which comes next, and when there is no room; and a new node, made and entered.
+ghost use mathlib.Core.Path.{_≡_};
+ghost use mathlib.Core.Bool.{Bool, true, false};
+ghost use mathlib.Core.List.{List};
+ghost use Prim.Native.Nat.{ℕ, _+_, _<_, _≤_};
+ghost use lib.ListN.{length};
+ghost use Rattle.layout.specs.Records.{made, room, focus, nodeB};
+ghost use Rattle.layout.specs.Sound.{Says, Sound};
+ghost use Rattle.layout.specs.Made.{IsMade, nextOf, IsFull};
+ghost use Rattle.layout.specs.Writes.{growB};
+use crate::records::focus_of;
+use crate::records::made_of;
+use crate::records::room_of;
+use crate::records::set_focus;
+use crate::records::set_made;
+use crate::records::set_node;
+use layout::Store;
+
+pub(crate) fn is_made(s: &[u8], a: usize) -> bool
+    requires { ⌜ Sound (now s) ⌝ }
+    ensures { λ r. ⌜ Says r (IsMade (now (s .entry)) a) ⌝ }
+{
+    a < made_of(s)
+}
+
+pub(crate) fn next_of(s: &[u8]) -> usize
+    requires { ⌜ Sound (now s) ⌝ }
+    ensures { λ r. ⌜ (r ≡ nextOf (now (s .entry))) × (r < 65536) ⌝ }
+{
+    made_of(s)
+}
+
+pub(crate) fn is_full(s: &[u8]) -> bool
+    requires { ⌜ Sound (now s) ⌝ }
+    ensures { λ r. ⌜ Says r (IsFull (now (s .entry))) ⌝ }
+{
+    made_of(s) == room_of(s)
+}
+
+// The next node: its kind, variable or prelude, zero or postlude, and stored cell; a child of the focus, and the new focus.
+pub(crate) fn grow(s: &mut [u8], k: u8, a: usize, b: usize, c: [u8; Store::BARE])
+    requires { ⌜ Sound (now s) × ((IsFull (now s) → ⊥) × ((a < 65536) × (b < 65536))) ⌝ }
+    ensures { λ _. ⌜ now (s .exit) ≡ growB (now (s .entry)) (nodeB k (focus (now (s .entry))) a b c) ⌝ }
+{
+    let n = made_of(s);
+    let f = focus_of(s);
+    set_node(s, n, k, f, a, b, c);
+    set_made(s, n + 1);
+    set_focus(s, n);
+}

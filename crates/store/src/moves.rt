@@ -1,0 +1,100 @@
+// One move of the focus, and the walk: document 01 and TR397, Figure 4.
+ghost use mathlib.Core.Path.{_≡_};
+ghost use mathlib.Core.Bool.{Bool, true, false};
+ghost use Prim.Native.Nat.{ℕ, _+_, _<_, _≤_};
+ghost use Rattle.rules.specs.Store.{goto};
+ghost use Rattle.layout.specs.Records.{vars, room, made, focus, nodeOf, varN};
+ghost use Rattle.layout.specs.Kinds.{isOut};
+ghost use Rattle.layout.specs.Fields.{Fit};
+ghost use Rattle.layout.specs.View.{view};
+ghost use Rattle.layout.specs.Sound.{Sound};
+ghost use Rattle.layout.specs.Writes.{Turns, swapB, turnB, leaveB, enterB};
+ghost use Rattle.layout.specs.Made.{IsMade};
+ghost use Rattle.layout.specs.Becomes.{Becomes};
+use crate::records::bare_of;
+use crate::records::cell;
+use crate::records::focus_of;
+use crate::records::kind_of;
+use crate::records::parent_of;
+use crate::records::set_cell;
+use crate::records::set_focus;
+use crate::records::swap_at;
+use crate::records::turn_at;
+use crate::records::var_of;
+
+// The cell of the binding n and its stored cell change places, and the kind becomes k: the node's part is lent on, then the cell's.
+fn exchange(s: &mut [u8], n: usize, k: u8)
+    requires { ⌜ Fit (now s) × ((n < room (now s)) × (varN (nodeOf (now s) n) < vars (now s))) ⌝ }
+    ensures { λ _. ⌜ now (s .exit) ≡ swapB (now (s .entry)) n k ⌝ }
+{
+    let x = var_of(s, n);
+    let c = bare_of(cell(s, x));
+    let d = swap_at(s, n, k, c);
+    set_cell(s, x, d);
+}
+
+// The node n changes its mode, to the kind k.
+fn turn(s: &mut [u8], n: usize, k: u8)
+    requires { ⌜ Turns (now s) n ⌝ }
+    ensures { λ _. ⌜ now (s .exit) ≡ turnB (now (s .entry)) n k ⌝ }
+{
+    let was = kind_of(s, n);
+    match was {
+        2..=3 => exchange(s, n, k),
+        4..=5 => turn_at(s, n, k),
+        _ => {}
+    }
+}
+
+// From the focus to its parent, which is read once the turn is made: less is held meanwhile, and the walk's frame is smaller.
+fn leave(s: &mut [u8])
+    requires { ⌜ Turns (now s) (focus (now s)) ⌝ }
+    ensures { λ _. ⌜ now (s .exit) ≡ leaveB (now (s .entry)) ⌝ }
+{
+    let f = focus_of(s);
+    let k = kind_of(s, f);
+    turn(s, f, k - 1);
+    let up = parent_of(s, f);
+    set_focus(s, up);
+}
+
+// To the child n of the focus.
+fn enter(s: &mut [u8], n: usize)
+    requires { ⌜ Turns (now s) n ⌝ }
+    ensures { λ _. ⌜ now (s .exit) ≡ enterB (now (s .entry)) n ⌝ }
+{
+    let k = kind_of(s, n);
+    turn(s, n, k + 1);
+    set_focus(s, n);
+}
+
+// Out, of a binding or a wind: the top counts as in.
+pub(crate) fn is_out(k: u8) -> bool
+    ensures { λ r. ⌜ r ≡ isOut k ⌝ }
+{
+    match k {
+        2 | 4 => true,
+        _ => false,
+    }
+}
+
+// To a: a target that is out is entered after the focus has been brought to its parent; for a target that is in, the focus is
+// left first. It calls itself at one place and holds little across that call: 48 bytes of stack a level on x86-64.
+pub(crate) fn walk(s: &mut [u8], a: usize)
+    requires { ⌜ Sound (now s) × IsMade (now s) a ⌝ }
+    ensures { λ _. ⌜ Becomes (now (s .entry)) (now (s .exit)) (goto a (view (now (s .entry)))) ⌝ }
+{
+    if a == focus_of(s) {
+        return;
+    }
+    let mut to = a;
+    if is_out(kind_of(s, a)) {
+        to = parent_of(s, a);
+    } else {
+        leave(s);
+    }
+    walk(s, to);
+    if focus_of(s) != a {
+        enter(s, a);
+    }
+}

@@ -1,0 +1,220 @@
+// The header, the cells and the nodes as parts of the lent store, read and written. Only this file knows the fields' places.
+ghost use mathlib.Core.Path.{_≡_};
+ghost use mathlib.Core.List.{List, [], _∷_};
+ghost use Prim.Native.Nat.{ℕ, _+_, _<_, _≤_};
+ghost use lib.ListN.{length, getD};
+ghost use Rattle.layout.specs.Limits.{header, cellSize, bareSize, nodeSize, cellAt, nodeAt};
+ghost use Rattle.layout.specs.Records.{vars, room, made, focus, withFocus, withMade, cellOf, withCell, bareC, putC, nodeOf, withNode, kindN, parentN, varN, postN, storedN, turnN, swapN, nodeB};
+ghost use Rattle.layout.specs.Fields.{Fit};
+use crate::number::put16_at;
+use crate::number::u16_at;
+use layout::Store;
+
+// ---- the header
+
+pub(crate) fn vars_of(s: &[u8]) -> usize
+    requires { ⌜ header ≤ length (now s) ⌝ }
+    ensures { λ r. ⌜ (r ≡ vars (now (s .entry))) × (r < 65536) ⌝ }
+{
+    u16_at(&s[0..Store::HEADER], 0)
+}
+
+pub(crate) fn room_of(s: &[u8]) -> usize
+    requires { ⌜ header ≤ length (now s) ⌝ }
+    ensures { λ r. ⌜ (r ≡ room (now (s .entry))) × (r < 65536) ⌝ }
+{
+    u16_at(&s[0..Store::HEADER], 2)
+}
+
+pub(crate) fn made_of(s: &[u8]) -> usize
+    requires { ⌜ header ≤ length (now s) ⌝ }
+    ensures { λ r. ⌜ (r ≡ made (now (s .entry))) × (r < 65536) ⌝ }
+{
+    u16_at(&s[0..Store::HEADER], 4)
+}
+
+pub(crate) fn focus_of(s: &[u8]) -> usize
+    requires { ⌜ header ≤ length (now s) ⌝ }
+    ensures { λ r. ⌜ (r ≡ focus (now (s .entry))) × (r < 65536) ⌝ }
+{
+    u16_at(&s[0..Store::HEADER], 6)
+}
+
+pub(crate) fn set_made(s: &mut [u8], m: usize)
+    requires { ⌜ (header ≤ length (now s)) × (m < 65536) ⌝ }
+    ensures { λ _. ⌜ now (s .exit) ≡ withMade (now (s .entry)) m ⌝ }
+{
+    put16_at(&mut s[0..Store::HEADER], 4, m);
+}
+
+pub(crate) fn set_focus(s: &mut [u8], f: usize)
+    requires { ⌜ (header ≤ length (now s)) × (f < 65536) ⌝ }
+    ensures { λ _. ⌜ now (s .exit) ≡ withFocus (now (s .entry)) f ⌝ }
+{
+    put16_at(&mut s[0..Store::HEADER], 6, f);
+}
+
+// ---- a cell
+
+// The cell of x, as a part of the store.
+pub(crate) fn cell(s: &[u8], x: usize) -> &[u8]
+    requires { ⌜ Fit (now s) × (x < vars (now s)) ⌝ }
+    ensures { λ r. ⌜ (now r ≡ cellOf (now (s .entry)) x) × (length (now r) ≡ cellSize) ⌝ }
+{
+    let a = Store::HEADER + Store::CELL * x;
+    let e = a + Store::CELL;
+    &s[a..e]
+}
+
+// The bare cell in a cell's part, or in a part of top cells.
+pub(crate) fn bare_of(p: &[u8]) -> [u8; Store::BARE]
+    requires { ⌜ bareSize ≤ length (now p) ⌝ }
+    ensures { λ r. ⌜ r ≡ bareC (now (p .entry)) ⌝ }
+{
+    [p[0], p[1], p[2], p[3], p[4]]
+}
+
+fn put_bare(p: &mut [u8], c: [u8; Store::BARE])
+    requires { ⌜ length (now p) ≡ cellSize ⌝ }
+    ensures { λ _. ⌜ now (p .exit) ≡ putC (now (p .entry)) c ⌝ }
+{
+    p[0] = c[0];
+    p[1] = c[1];
+    p[2] = c[2];
+    p[3] = c[3];
+    p[4] = c[4];
+}
+
+pub(crate) fn set_cell(s: &mut [u8], x: usize, c: [u8; Store::BARE])
+    requires { ⌜ Fit (now s) × (x < vars (now s)) ⌝ }
+    ensures { λ _. ⌜ now (s .exit) ≡ withCell (now (s .entry)) x (putC (cellOf (now (s .entry)) x) c) ⌝ }
+{
+    let a = Store::HEADER + Store::CELL * x;
+    let e = a + Store::CELL;
+    put_bare(&mut s[a..e], c);
+}
+
+// ---- a node
+
+pub(crate) fn node_at(s: &[u8], n: usize) -> usize
+    requires { ⌜ (header ≤ length (now s)) × (n < 65536) ⌝ }
+    ensures { λ r. ⌜ r ≡ nodeAt (vars (now (s .entry))) n ⌝ }
+{
+    Store::HEADER + Store::CELL * vars_of(s) + Store::NODE * n
+}
+
+// The node n, as a part of the store.
+pub(crate) fn node(s: &[u8], n: usize) -> &[u8]
+    requires { ⌜ Fit (now s) × (n < room (now s)) ⌝ }
+    ensures { λ r. ⌜ (now r ≡ nodeOf (now (s .entry)) n) × (length (now r) ≡ nodeSize) ⌝ }
+{
+    let a = node_at(s, n);
+    let e = a + Store::NODE;
+    &s[a..e]
+}
+
+pub(crate) fn kind_of(s: &[u8], n: usize) -> u8
+    requires { ⌜ Fit (now s) × (n < room (now s)) ⌝ }
+    ensures { λ r. ⌜ r ≡ kindN (nodeOf (now (s .entry)) n) ⌝ }
+{
+    let p = node(s, n);
+    p[0]
+}
+
+pub(crate) fn parent_of(s: &[u8], n: usize) -> usize
+    requires { ⌜ Fit (now s) × (n < room (now s)) ⌝ }
+    ensures { λ r. ⌜ (r ≡ parentN (nodeOf (now (s .entry)) n)) × (r < 65536) ⌝ }
+{
+    u16_at(node(s, n), 2)
+}
+
+// The variable or the prelude.
+pub(crate) fn var_of(s: &[u8], n: usize) -> usize
+    requires { ⌜ Fit (now s) × (n < room (now s)) ⌝ }
+    ensures { λ r. ⌜ (r ≡ varN (nodeOf (now (s .entry)) n)) × (r < 65536) ⌝ }
+{
+    u16_at(node(s, n), 4)
+}
+
+pub(crate) fn post_of(s: &[u8], n: usize) -> usize
+    requires { ⌜ Fit (now s) × (n < room (now s)) ⌝ }
+    ensures { λ r. ⌜ (r ≡ postN (nodeOf (now (s .entry)) n)) × (r < 65536) ⌝ }
+{
+    u16_at(node(s, n), 6)
+}
+
+// The stored cell in a node's part.
+pub(crate) fn stored_of(p: &[u8]) -> [u8; Store::BARE]
+    requires { ⌜ length (now p) ≡ nodeSize ⌝ }
+    ensures { λ r. ⌜ r ≡ storedN (now (p .entry)) ⌝ }
+{
+    [p[1], p[8], p[9], p[10], p[11]]
+}
+
+fn turn_node(p: &mut [u8], k: u8)
+    requires { ⌜ length (now p) ≡ nodeSize ⌝ }
+    ensures { λ _. ⌜ now (p .exit) ≡ turnN (now (p .entry)) k ⌝ }
+{
+    p[0] = k;
+}
+
+// The stored cell goes out and c comes in, and the kind becomes k.
+fn swap_node(p: &mut [u8], k: u8, c: [u8; Store::BARE]) -> [u8; Store::BARE]
+    requires { ⌜ length (now p) ≡ nodeSize ⌝ }
+    ensures { λ r. ⌜ (r ≡ storedN (now (p .entry))) × (now (p .exit) ≡ swapN (now (p .entry)) k c) ⌝ }
+{
+    let d = [p[1], p[8], p[9], p[10], p[11]];
+    p[0] = k;
+    p[1] = c[0];
+    p[8] = c[1];
+    p[9] = c[2];
+    p[10] = c[3];
+    p[11] = c[4];
+    d
+}
+
+// A whole node: kind, parent, variable or prelude, zero or postlude, stored cell.
+fn put_node(p: &mut [u8], k: u8, up: usize, a: usize, b: usize, c: [u8; Store::BARE])
+    requires { ⌜ (length (now p) ≡ nodeSize) × ((up < 65536) × ((a < 65536) × (b < 65536))) ⌝ }
+    ensures { λ _. ⌜ now (p .exit) ≡ nodeB k up a b c ⌝ }
+{
+    swap_node(p, k, c);
+    put16_at(p, 2, up);
+    put16_at(p, 4, a);
+    put16_at(p, 6, b);
+}
+
+pub(crate) fn turn_at(s: &mut [u8], n: usize, k: u8)
+    requires { ⌜ Fit (now s) × (n < room (now s)) ⌝ }
+    ensures { λ _. ⌜ now (s .exit) ≡ withNode (now (s .entry)) n (turnN (nodeOf (now (s .entry)) n) k) ⌝ }
+{
+    let a = node_at(s, n);
+    let e = a + Store::NODE;
+    turn_node(&mut s[a..e], k);
+}
+
+pub(crate) fn swap_at(s: &mut [u8], n: usize, k: u8, c: [u8; Store::BARE]) -> [u8; Store::BARE]
+    requires { ⌜ Fit (now s) × (n < room (now s)) ⌝ }
+    ensures { λ r. ⌜ (r ≡ storedN (nodeOf (now (s .entry)) n)) × (now (s .exit) ≡ withNode (now (s .entry)) n (swapN (nodeOf (now (s .entry)) n) k c)) ⌝ }
+{
+    let a = node_at(s, n);
+    let e = a + Store::NODE;
+    swap_node(&mut s[a..e], k, c)
+}
+
+pub(crate) fn set_node(
+    s: &mut [u8],
+    n: usize,
+    k: u8,
+    up: usize,
+    a: usize,
+    b: usize,
+    c: [u8; Store::BARE],
+)
+    requires { ⌜ Fit (now s) × ((n < room (now s)) × ((up < 65536) × ((a < 65536) × (b < 65536)))) ⌝ }
+    ensures { λ _. ⌜ now (s .exit) ≡ withNode (now (s .entry)) n (nodeB k up a b c) ⌝ }
+{
+    let at = node_at(s, n);
+    let e = at + Store::NODE;
+    put_node(&mut s[at..e], k, up, a, b, c);
+}

@@ -1,0 +1,316 @@
+/* bench.c: each call of the library beside plain.c's, in one run. Times are
+   medians over interleaved rounds; a ratio is the median of the rounds' own. */
+#include "plain.h"
+#include "shape.h"
+
+#include <stdio.h>
+#include <stdlib.h>
+#include <string.h>
+#include <time.h>
+
+enum { ROUNDS = 21, BATCH_NS = 500000 };
+
+/* ---- The two faces ---- */
+
+struct face {
+    kn_answer (*open)(uint32_t, uint32_t, const uint8_t *, size_t, uint8_t *, size_t);
+    kn_answer (*bind)(uint8_t *, size_t, uint32_t, int32_t);
+    kn_answer (*wind)(uint8_t *, size_t, uint8_t *, size_t, uint16_t, uint16_t);
+    kn_answer (*look)(const uint8_t *, size_t, uint32_t);
+    kn_answer (*peek)(const uint8_t *, size_t, uint32_t, uint32_t);
+    kn_answer (*set)(uint8_t *, size_t, uint32_t, int32_t);
+    kn_answer (*here)(const uint8_t *, size_t);
+    kn_answer (*go)(uint8_t *, size_t, uint8_t *, size_t, uint32_t);
+    kn_answer (*back)(uint8_t *, size_t, uint8_t *, size_t);
+};
+
+static const struct face library = {
+    kn_open, kn_bind, kn_wind, kn_look, kn_peek, kn_set, kn_here, kn_goto, kn_back
+};
+static const struct face plain = {
+    pl_open, pl_bind, pl_wind, pl_look, pl_peek, pl_set, pl_here, pl_goto, pl_back
+};
+
+/* ---- What is timed: one call on a store, which ends as it began ---- */
+
+struct job {
+    struct shape s;
+    unsigned nodes, made, focus;
+    unsigned other; /* where goto goes and peek asks */
+};
+
+/* A call that makes or leaves one node changes the header, that node and its
+   variable's cell; they are put back after it. */
+struct spot {
+    uint8_t head[KN_HEADER_BYTES], cell[KN_CELL_BYTES], node[KN_NODE_BYTES];
+    uint8_t *cell_at, *node_at;
+};
+
+static void keep(struct spot *p, struct shape *s, unsigned n, unsigned x)
+{
+    p->cell_at = s->store + KN_SIZE(x, 0);
+    p->node_at = s->store + KN_SIZE(KN_MAX_VARS, n);
+    memcpy(p->head, s->store, sizeof p->head);
+    memcpy(p->cell, p->cell_at, sizeof p->cell);
+    memcpy(p->node, p->node_at, sizeof p->node);
+}
+
+static void put_back(const struct spot *p, struct shape *s)
+{
+    memcpy(s->store, p->head, sizeof p->head);
+    memcpy(p->cell_at, p->cell, sizeof p->cell);
+    memcpy(p->node_at, p->node, sizeof p->node);
+}
+
+/* Both faces have to give the same sum of answers. */
+static uint64_t sum(uint64_t before, kn_answer r)
+{
+    return before * 31 + r.code + 3u * (uint32_t)r.out + 5u * r.moves + 7u * r.events;
+}
+
+static uint64_t run_open(const struct face *f, struct job *j, unsigned times)
+{
+    static struct shape fresh;
+    static uint8_t tops[KN_MAX_VARS * KN_CELL_BYTES];
+    uint64_t total = 0;
+
+    while (times-- > 0)
+        total = sum(total, f->open(KN_MAX_VARS, j->nodes, tops, sizeof tops,
+                                   fresh.store, j->s.len));
+    return total;
+}
+
+static uint64_t run_bind(const struct face *f, struct job *j, unsigned times)
+{
+    uint64_t total = 0;
+    struct spot spot;
+
+    keep(&spot, &j->s, j->made, 0);
+    while (times-- > 0) {
+        total = sum(total, f->bind(j->s.store, j->s.len, 0, 77));
+        put_back(&spot, &j->s);
+    }
+    return total;
+}
+
+static uint64_t run_wind(const struct face *f, struct job *j, unsigned times)
+{
+    uint64_t total = 0;
+    struct spot spot;
+
+    keep(&spot, &j->s, j->made, 0);
+    while (times-- > 0) {
+        total = sum(total, f->wind(j->s.store, j->s.len, j->s.trace,
+                                   sizeof j->s.trace, 7, 8));
+        put_back(&spot, &j->s);
+    }
+    return total;
+}
+
+static uint64_t run_look(const struct face *f, struct job *j, unsigned times)
+{
+    uint64_t total = 0;
+
+    while (times-- > 0)
+        total = sum(total, f->look(j->s.store, j->s.len, 5));
+    return total;
+}
+
+static uint64_t run_peek(const struct face *f, struct job *j, unsigned times)
+{
+    uint64_t total = 0;
+
+    while (times-- > 0)
+        total = sum(total, f->peek(j->s.store, j->s.len, j->other,
+                                   SHAPE_UNBOUND_BY_NODES));
+    return total;
+}
+
+static uint64_t run_set(const struct face *f, struct job *j, unsigned times)
+{
+    uint64_t total = 0;
+
+    while (times-- > 0)
+        total = sum(total, f->set(j->s.store, j->s.len, 5, 5));
+    return total;
+}
+
+static uint64_t run_here(const struct face *f, struct job *j, unsigned times)
+{
+    uint64_t total = 0;
+
+    while (times-- > 0)
+        total = sum(total, f->here(j->s.store, j->s.len));
+    return total;
+}
+
+/* There and back again; times is even. */
+static uint64_t run_goto(const struct face *f, struct job *j, unsigned times)
+{
+    uint64_t total = 0;
+
+    for (; times > 0; times -= 2) {
+        total = sum(total, f->go(j->s.store, j->s.len, j->s.trace,
+                                 sizeof j->s.trace, j->other));
+        total = sum(total, f->go(j->s.store, j->s.len, j->s.trace,
+                                 sizeof j->s.trace, j->focus));
+    }
+    return total;
+}
+
+/* The focus is a node that binds, or the top. */
+static uint64_t run_back(const struct face *f, struct job *j, unsigned times)
+{
+    uint64_t total = 0;
+    struct spot spot;
+
+    keep(&spot, &j->s, j->focus, j->focus % SHAPE_UNBOUND_BY_NODES);
+    while (times-- > 0) {
+        total = sum(total, f->back(j->s.store, j->s.len, j->s.trace,
+                                   sizeof j->s.trace));
+        put_back(&spot, &j->s);
+    }
+    return total;
+}
+
+/* ---- Timing ---- */
+
+typedef uint64_t (*run)(const struct face *, struct job *, unsigned);
+
+struct result { double library_ns, plain_ns, ratio; };
+
+static double ns_of(run r, const struct face *f, struct job *j, unsigned times,
+                    uint64_t *total)
+{
+    struct timespec from, to;
+
+    clock_gettime(CLOCK_MONOTONIC, &from);
+    *total = r(f, j, times);
+    clock_gettime(CLOCK_MONOTONIC, &to);
+    return ((double)(to.tv_sec - from.tv_sec) * 1e9
+            + (double)(to.tv_nsec - from.tv_nsec)) / times;
+}
+
+static int by_size(const void *a, const void *b)
+{
+    double x = *(const double *)a, y = *(const double *)b;
+    return (x > y) - (x < y);
+}
+
+static double median(double *of)
+{
+    qsort(of, ROUNDS, sizeof *of, by_size);
+    return of[ROUNDS / 2];
+}
+
+static unsigned times_for(run r, struct job *j)
+{
+    unsigned times = 2;
+    uint64_t total;
+
+    while (ns_of(r, &plain, j, times, &total) * times < BATCH_NS)
+        times *= 2;
+    return times;
+}
+
+static struct result measure(run r, struct job *j)
+{
+    double lib[ROUNDS], pl[ROUNDS], ratio[ROUNDS];
+    unsigned i, times = times_for(r, j);
+    uint64_t a, b;
+    struct result result;
+
+    for (i = 0; i < ROUNDS; i++) {
+        if (i % 2 == 0)
+            lib[i] = ns_of(r, &library, j, times, &a);
+        pl[i] = ns_of(r, &plain, j, times, &b);
+        if (i % 2 != 0)
+            lib[i] = ns_of(r, &library, j, times, &a);
+        ratio[i] = lib[i] / pl[i];
+        if (a != b) {
+            puts("FAIL: the two give different answers");
+            exit(1);
+        }
+    }
+    result.library_ns = median(lib);
+    result.plain_ns = median(pl);
+    result.ratio = median(ratio);
+    return result;
+}
+
+/* ---- The table ---- */
+
+struct kind {
+    const char *name;
+    void (*make)(struct shape *, unsigned nodes, unsigned made);
+    unsigned far; /* from the end of the room: a place far from the last */
+};
+
+static const struct kind kinds[] = {
+    { "chain", shape_chain, 0 }, { "bushy", shape_bushy, 2 }, { "empty", shape_empty, 0 }
+};
+
+struct row {
+    const char *name;
+    run run;
+    unsigned room; /* environments not made */
+    int flipped;   /* focus and the other place exchanged */
+};
+
+static const struct row rows[] = {
+    { "open", run_open, 0, 0 }, { "bind", run_bind, 1, 0 },
+    { "wind", run_wind, 1, 0 }, { "look", run_look, 0, 0 },
+    { "peek in", run_peek, 0, 0 }, { "peek out", run_peek, 0, 1 },
+    { "set", run_set, 0, 0 }, { "here", run_here, 0, 0 },
+    { "goto", run_goto, 0, 0 }, { "back", run_back, 0, 0 }
+};
+
+enum { KINDS = sizeof kinds / sizeof kinds[0], ROWS = sizeof rows / sizeof rows[0] };
+
+static void prepare(struct job *j, const struct kind *kind, const struct row *row,
+                    unsigned nodes)
+{
+    unsigned last;
+
+    kind->make(&j->s, nodes, nodes - row->room);
+    last = (unsigned)kn_here(j->s.store, j->s.len).out;
+    j->nodes = nodes;
+    j->made = last + 1;
+    j->focus = last;
+    j->other = kind->far == 0 ? 0 : nodes - kind->far;
+    if (row->flipped) {
+        shape_focus(&j->s, j->other);
+        j->focus = j->other;
+        j->other = last;
+    }
+}
+
+static double line(const struct kind *kind, const struct row *row, unsigned nodes)
+{
+    static struct job job;
+    struct result r;
+
+    prepare(&job, kind, row, nodes);
+    r = measure(row->run, &job);
+    printf("%-6s %-9s %5u %11.0f %9.0f %6.2f\n", kind->name, row->name, nodes,
+           r.library_ns, r.plain_ns, r.ratio);
+    return r.ratio;
+}
+
+int main(void)
+{
+    double worst = 0;
+    unsigned k, r, nodes;
+
+    puts("store  call          N  library ns  plain ns  ratio");
+    for (k = 0; k < KINDS; k++)
+        for (r = 0; r < ROWS; r++) {
+            double ratio = line(&kinds[k], &rows[r], KN_MAX_NODES);
+            worst = ratio > worst ? ratio : worst;
+        }
+    printf("worst ratio: %.2f\n\nhow cost grows with N\n", worst);
+    for (r = 0; r < ROWS; r++)
+        for (nodes = KN_MAX_NODES / 4; nodes <= KN_MAX_NODES; nodes *= 2)
+            line(&kinds[0], &rows[r], nodes);
+    return 0;
+}

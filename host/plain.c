@@ -1,0 +1,496 @@
+/* plain.c: the contract of kestrelnib.h in plain C, the rival in the bench.
+   Same layout, the full soundness check on every call, the recursive walk. */
+#include "plain.h"
+
+#include <string.h>
+
+enum { BLANK, TOP, BINDING_OUT, BINDING_IN, WIND_OUT, WIND_IN };
+
+/* ---- Fields ---- */
+
+static unsigned get16(const uint8_t *p)
+{
+    return p[0] | (unsigned)p[1] << 8;
+}
+
+static uint32_t get32(const uint8_t *p)
+{
+    return p[0] | (uint32_t)p[1] << 8 | (uint32_t)p[2] << 16
+           | (uint32_t)p[3] << 24;
+}
+
+static void put16(uint8_t *p, unsigned v)
+{
+    p[0] = (uint8_t)v;
+    p[1] = (uint8_t)(v >> 8);
+}
+
+static void put32(uint8_t *p, uint32_t v)
+{
+    put16(p, v & 0xffff);
+    put16(p + 2, v >> 16);
+}
+
+/* A node: kind, state, parent (2), variable or prelude (2), postlude (2),
+   value (4). A cell: state, value (4). */
+static unsigned parent_of(const uint8_t *node) { return get16(node + 2); }
+static unsigned name_of(const uint8_t *node) { return get16(node + 4); }
+static unsigned postlude_of(const uint8_t *node) { return get16(node + 6); }
+static uint32_t value_of(const uint8_t *node) { return get32(node + 8); }
+
+static int is_binding(unsigned kind)
+{
+    return kind == BINDING_OUT || kind == BINDING_IN;
+}
+
+static int is_wind(unsigned kind)
+{
+    return kind == WIND_OUT || kind == WIND_IN;
+}
+
+static int is_out(unsigned kind)
+{
+    return kind == BINDING_OUT || kind == WIND_OUT;
+}
+
+static int is_in(unsigned kind)
+{
+    return kind == BINDING_IN || kind == WIND_IN;
+}
+
+/* Where the parts of a store begin, from its header. */
+static size_t cell_at(unsigned x)
+{
+    return KN_HEADER_BYTES + (size_t)x * KN_CELL_BYTES;
+}
+
+static size_t nodes_at(const uint8_t *store)
+{
+    return cell_at(get16(store));
+}
+
+static size_t node_at(const uint8_t *store, unsigned n)
+{
+    return nodes_at(store) + (size_t)n * KN_NODE_BYTES;
+}
+
+static unsigned vars_of(const uint8_t *store) { return get16(store); }
+static unsigned room_of(const uint8_t *store) { return get16(store + 2); }
+static unsigned made_of(const uint8_t *store) { return get16(store + 4); }
+static unsigned focus_of(const uint8_t *store) { return get16(store + 6); }
+
+static unsigned focus_parent(const uint8_t *store)
+{
+    return parent_of(store + node_at(store, focus_of(store)));
+}
+
+/* ---- Answers ---- */
+
+static kn_answer done(uint32_t out, uint32_t moves, uint32_t events)
+{
+    kn_answer r = { (int32_t)out, KN_DONE, (uint16_t)moves, (uint16_t)events };
+    return r;
+}
+
+static kn_answer refuse(uint32_t code)
+{
+    kn_answer r = { 0, (uint16_t)code, 0, 0 };
+    return r;
+}
+
+/* What a cell, or a stored cell, has to say. */
+static kn_answer cell_answer(unsigned state, uint32_t value)
+{
+    return state == 1 ? done(value, 0, 0) : refuse(KN_UNBOUND);
+}
+
+/* ---- Soundness ---- */
+
+static int all_zero(const uint8_t *p, size_t n)
+{
+    uint64_t word, any = 0;
+
+    for (; n >= sizeof word; p += sizeof word, n -= sizeof word) {
+        memcpy(&word, p, sizeof word);
+        any |= word;
+    }
+    while (n-- > 0)
+        any |= *p++;
+    return any == 0;
+}
+
+static int in_range(uint32_t vars, uint32_t nodes)
+{
+    return vars - 1 < KN_MAX_VARS && nodes - 1 < KN_MAX_NODES;
+}
+
+static int proper(unsigned state, uint32_t value)
+{
+    return state == 1 || (state == 0 && value == 0);
+}
+
+static int cells_sound(const uint8_t *cell, unsigned vars)
+{
+    unsigned x;
+
+    for (x = 0; x < vars; x++, cell += KN_CELL_BYTES)
+        if (!proper(cell[0], get32(cell + 1)))
+            return 0;
+    return 1;
+}
+
+static int node_sound(const uint8_t *node, unsigned number, unsigned vars)
+{
+    if (parent_of(node) >= number)
+        return 0;
+    if (is_binding(node[0]))
+        return name_of(node) < vars && postlude_of(node) == 0
+               && proper(node[1], value_of(node));
+    return is_wind(node[0]) && node[1] == 0 && value_of(node) == 0;
+}
+
+/* The in nodes are the path from the focus: all of it is in, and it is as
+   long as there are in nodes. */
+static int path_sound(const uint8_t *nodes, unsigned focus, unsigned in)
+{
+    const uint8_t *node;
+
+    for (; focus != 0; focus = parent_of(node), in--) {
+        node = nodes + (size_t)focus * KN_NODE_BYTES;
+        if (!is_in(node[0]))
+            return 0;
+    }
+    return in == 0;
+}
+
+static int nodes_sound(const uint8_t *nodes, unsigned vars, unsigned made,
+                       unsigned focus)
+{
+    const uint8_t *node = nodes;
+    unsigned n, in = 0;
+
+    if (node[0] != TOP || !all_zero(node + 1, KN_NODE_BYTES - 1))
+        return 0;
+    for (n = 1; n < made; n++) {
+        node += KN_NODE_BYTES;
+        if (!node_sound(node, n, vars))
+            return 0;
+        in += is_in(node[0]);
+    }
+    return path_sound(nodes, focus, in);
+}
+
+static int sound(const uint8_t *store, size_t len)
+{
+    unsigned vars, room, made, focus;
+    const uint8_t *nodes;
+
+    if (len < KN_HEADER_BYTES)
+        return 0;
+    vars = vars_of(store);
+    room = room_of(store);
+    made = made_of(store);
+    focus = focus_of(store);
+    if (!in_range(vars, room) || len < KN_SIZE(vars, room))
+        return 0;
+    if (made < 1 || made > room || focus >= made)
+        return 0;
+    nodes = store + nodes_at(store);
+    return cells_sound(store + KN_HEADER_BYTES, vars)
+           && nodes_sound(nodes, vars, made, focus)
+           && all_zero(nodes + (size_t)made * KN_NODE_BYTES,
+                       (size_t)(room - made) * KN_NODE_BYTES);
+}
+
+/* ---- Moves ---- */
+
+struct walk {
+    uint8_t *store, *nodes;
+    uint8_t *event; /* where the next event goes */
+};
+
+static void tell(struct walk *w, unsigned what, unsigned thunk, unsigned place)
+{
+    w->event[0] = (uint8_t)what;
+    put16(w->event + 1, thunk);
+    put16(w->event + 3, place);
+    w->event += KN_EVENT_BYTES;
+}
+
+static void exchange(uint8_t *store, uint8_t *node)
+{
+    uint8_t *cell = store + cell_at(name_of(node));
+    uint8_t state = cell[0];
+    uint32_t value = get32(cell + 1);
+
+    cell[0] = node[1];
+    put32(cell + 1, value_of(node));
+    node[1] = state;
+    put32(node + 8, value);
+}
+
+static void leave(struct walk *w)
+{
+    unsigned focus = focus_of(w->store);
+    uint8_t *node = w->nodes + (size_t)focus * KN_NODE_BYTES;
+
+    if (node[0] == BINDING_IN) {
+        exchange(w->store, node);
+        node[0] = BINDING_OUT;
+    } else {
+        tell(w, KN_LEAVING, postlude_of(node), focus);
+        node[0] = WIND_OUT;
+    }
+    put16(w->store + 6, parent_of(node));
+}
+
+static void enter(struct walk *w, unsigned n)
+{
+    uint8_t *node = w->nodes + (size_t)n * KN_NODE_BYTES;
+
+    if (node[0] == BINDING_OUT) {
+        exchange(w->store, node);
+        node[0] = BINDING_IN;
+    } else {
+        tell(w, KN_ENTERING, name_of(node), parent_of(node));
+        node[0] = WIND_IN;
+    }
+    put16(w->store + 6, n);
+}
+
+static void walk(struct walk *w, unsigned target)
+{
+    const uint8_t *node = w->nodes + (size_t)target * KN_NODE_BYTES;
+
+    if (target == focus_of(w->store))
+        return;
+    if (is_out(node[0])) {
+        walk(w, parent_of(node));
+        enter(w, target);
+    } else {
+        leave(w);
+        walk(w, target);
+    }
+}
+
+/* What a way costs: its moves, and its events. */
+struct way { unsigned moves, events; };
+
+static unsigned step_up(const uint8_t *node, struct way *way)
+{
+    way->moves++;
+    way->events += is_wind(node[0]);
+    return parent_of(node);
+}
+
+/* Up from n to the first node that is in, which is answered; the top counts
+   as in. */
+static unsigned climb_out(const uint8_t *nodes, unsigned n, struct way *way)
+{
+    const uint8_t *node = nodes + (size_t)n * KN_NODE_BYTES;
+
+    while (is_out(node[0])) {
+        n = step_up(node, way);
+        node = nodes + (size_t)n * KN_NODE_BYTES;
+    }
+    return n;
+}
+
+/* Up from n to a node above it. */
+static void climb_to(const uint8_t *nodes, unsigned n, unsigned above,
+                     struct way *way)
+{
+    while (n != above)
+        n = step_up(nodes + (size_t)n * KN_NODE_BYTES, way);
+}
+
+static kn_answer switch_to(uint8_t *store, uint8_t *trace, size_t trace_len,
+                           unsigned target)
+{
+    struct walk w = { store, store + nodes_at(store), trace };
+    struct way way = { 0, 0 };
+    unsigned meet = climb_out(w.nodes, target, &way);
+
+    climb_to(w.nodes, focus_of(store), meet, &way);
+    if (way.events > trace_len / KN_EVENT_BYTES)
+        return refuse(KN_TRACE_ROOM);
+    walk(&w, target);
+    return done(target, way.moves, way.events);
+}
+
+/* ---- The calls ---- */
+
+kn_answer pl_open(uint32_t vars, uint32_t nodes,
+                  const uint8_t *tops, size_t tops_len,
+                  uint8_t *store, size_t store_len)
+{
+    if (!in_range(vars, nodes) || tops_len != (size_t)vars * KN_CELL_BYTES
+        || !cells_sound(tops, vars) || store_len < KN_SIZE(vars, nodes))
+        return refuse(KN_SETUP);
+    put16(store, vars);
+    put16(store + 2, nodes);
+    put16(store + 4, 1);
+    put16(store + 6, 0);
+    memcpy(store + KN_HEADER_BYTES, tops, tops_len);
+    memset(store + nodes_at(store), 0, (size_t)nodes * KN_NODE_BYTES);
+    store[nodes_at(store)] = TOP;
+    return done(0, 0, 0);
+}
+
+/* The next node, made a child of the focus, and the new focus. */
+static uint8_t *make(uint8_t *store, unsigned kind)
+{
+    unsigned n = made_of(store);
+    uint8_t *node = store + node_at(store, n);
+
+    node[0] = (uint8_t)kind;
+    put16(node + 2, focus_of(store));
+    put16(store + 4, n + 1);
+    put16(store + 6, n);
+    return node;
+}
+
+kn_answer pl_bind(uint8_t *store, size_t store_len, uint32_t x, int32_t v)
+{
+    uint8_t *node;
+
+    if (!sound(store, store_len))
+        return refuse(KN_DAMAGED);
+    if (x >= vars_of(store))
+        return refuse(KN_NO_VARIABLE);
+    if (made_of(store) == room_of(store))
+        return refuse(KN_FULL);
+    node = make(store, BINDING_IN);
+    put16(node + 4, x);
+    node[1] = 1;
+    put32(node + 8, (uint32_t)v);
+    exchange(store, node);
+    return done(focus_of(store), 0, 0);
+}
+
+kn_answer pl_wind(uint8_t *store, size_t store_len,
+                  uint8_t *trace, size_t trace_len, uint16_t p, uint16_t q)
+{
+    struct walk w = { store, NULL, trace };
+    uint8_t *node;
+
+    if (!sound(store, store_len))
+        return refuse(KN_DAMAGED);
+    if (made_of(store) == room_of(store))
+        return refuse(KN_FULL);
+    if (trace_len < KN_EVENT_BYTES)
+        return refuse(KN_TRACE_ROOM);
+    node = make(store, WIND_IN);
+    put16(node + 4, p);
+    put16(node + 6, q);
+    tell(&w, KN_ENTERING, p, parent_of(node));
+    return done(focus_of(store), 0, 1);
+}
+
+kn_answer pl_look(const uint8_t *store, size_t store_len, uint32_t x)
+{
+    const uint8_t *cell;
+
+    if (!sound(store, store_len))
+        return refuse(KN_DAMAGED);
+    if (x >= vars_of(store))
+        return refuse(KN_NO_VARIABLE);
+    cell = store + cell_at(x);
+    return cell_answer(cell[0], get32(cell + 1));
+}
+
+kn_answer pl_set(uint8_t *store, size_t store_len, uint32_t x, int32_t v)
+{
+    uint8_t *cell;
+
+    if (!sound(store, store_len))
+        return refuse(KN_DAMAGED);
+    if (x >= vars_of(store))
+        return refuse(KN_NO_VARIABLE);
+    cell = store + cell_at(x);
+    if (cell[0] != 1)
+        return refuse(KN_UNBOUND);
+    put32(cell + 1, (uint32_t)v);
+    return done(focus_of(store), 0, 0);
+}
+
+kn_answer pl_here(const uint8_t *store, size_t store_len)
+{
+    if (!sound(store, store_len))
+        return refuse(KN_DAMAGED);
+    return done(focus_of(store), 0, 0);
+}
+
+kn_answer pl_goto(uint8_t *store, size_t store_len,
+                  uint8_t *trace, size_t trace_len, uint32_t a)
+{
+    if (!sound(store, store_len))
+        return refuse(KN_DAMAGED);
+    if (a >= made_of(store))
+        return refuse(KN_NO_ENVIRONMENT);
+    return switch_to(store, trace, trace_len, a);
+}
+
+kn_answer pl_back(uint8_t *store, size_t store_len,
+                  uint8_t *trace, size_t trace_len)
+{
+    if (!sound(store, store_len))
+        return refuse(KN_DAMAGED);
+    if (focus_of(store) == 0)
+        return refuse(KN_TOP);
+    return switch_to(store, trace, trace_len, focus_parent(store));
+}
+
+static int binds(const uint8_t *node, unsigned x)
+{
+    return is_binding(node[0]) && name_of(node) == x;
+}
+
+/* The value of x at a node that is in: what the last binding of x on the way
+   from the focus to that node stores; else the cell. */
+static kn_answer peek_in(const uint8_t *store, unsigned a, unsigned x)
+{
+    const uint8_t *nodes = store + nodes_at(store), *node, *last = NULL;
+    const uint8_t *cell = store + cell_at(x);
+    unsigned n;
+
+    for (n = focus_of(store); n != a; n = parent_of(node)) {
+        node = nodes + (size_t)n * KN_NODE_BYTES;
+        if (binds(node, x))
+            last = node;
+    }
+    return last != NULL ? cell_answer(last[1], value_of(last))
+                        : cell_answer(cell[0], get32(cell + 1));
+}
+
+kn_answer pl_peek(const uint8_t *store, size_t store_len,
+                  uint32_t a, uint32_t x)
+{
+    const uint8_t *nodes, *node;
+
+    if (!sound(store, store_len))
+        return refuse(KN_DAMAGED);
+    if (x >= vars_of(store))
+        return refuse(KN_NO_VARIABLE);
+    if (a >= made_of(store))
+        return refuse(KN_NO_ENVIRONMENT);
+    nodes = store + nodes_at(store);
+    node = nodes + (size_t)a * KN_NODE_BYTES;
+    while (is_out(node[0])) {
+        if (binds(node, x))
+            return cell_answer(node[1], value_of(node));
+        a = parent_of(node);
+        node = nodes + (size_t)a * KN_NODE_BYTES;
+    }
+    return peek_in(store, a, x);
+}
+
+uint32_t pl_limit(uint32_t which)
+{
+    static const uint32_t limits[] = {
+        KN_MAX_VARS,   KN_MAX_NODES,  KN_HEADER_BYTES,
+        KN_CELL_BYTES, KN_NODE_BYTES, KN_EVENT_BYTES
+    };
+
+    return which < sizeof limits / sizeof limits[0] ? limits[which] : 0;
+}

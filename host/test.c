@@ -1,0 +1,13 @@
+/* test.c: the tests of whichever library is linked under the kn_ names. */
+#include "check.h"
+
+int main(void)
+{
+    check_begin();
+    test_face();
+    test_edges();
+    test_clauses();
+    test_damage();
+    test_runs();
+    return check_report();
+}

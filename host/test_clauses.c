@@ -1,0 +1,250 @@
+/* test_clauses.c: each clause of soundness broken alone, as far as it can be,
+   in a small sound store; every call refuses and changes nothing. */
+#include "check.h"
+
+#include <string.h>
+
+enum { VARS = 3, NODES = 8, FIRST_NODE = KN_HEADER_BYTES + VARS * KN_CELL_BYTES };
+
+/* Places in the store: the header's fields, cell x and node n. */
+#define CELL(x) (KN_HEADER_BYTES + (x) * KN_CELL_BYTES)
+#define NODE(n) (FIRST_NODE + (n) * KN_NODE_BYTES)
+enum { HEAD_VARS = 0, HEAD_NODES = 2, HEAD_MADE = 4, HEAD_FOCUS = 6 };
+enum { KIND = 0, STATE = 1, PARENT = 2, NAME = 4, POSTLUDE = 6, VALUE = 8 };
+
+/* In: binding 1, wind 2, binding 3, the focus. Out: binding 4, wind 5.
+   Blank: 6 and 7. The top values of 1 and 2 are unbound. */
+static void base_store(struct model *m, unsigned vars, unsigned nodes)
+{
+    static const struct model_node five[] = {
+        { 0, 0, 0, { 1, 10 }, 0, 0 }, { 1, 1, 0, { 0, 0 }, 20, 21 },
+        { 0, 2, 1, { 1, 30 }, 0, 0 }, { 0, 1, 2, { 1, 40 }, 0, 0 },
+        { 1, 4, 0, { 0, 0 }, 50, 51 }
+    };
+
+    memset(m, 0, sizeof *m);
+    m->vars = vars;
+    m->nodes = nodes;
+    m->made = 6;
+    m->focus = 3;
+    m->top[0].bound = 1;
+    m->top[0].value = 5;
+    memcpy(m->node + 1, five, sizeof five);
+}
+
+static void lend(const struct model *m, size_t spare)
+{
+    lent_take(&store, KN_SIZE(m->vars, m->nodes) + spare);
+    model_write(m, store.bytes);
+}
+
+static void every_call_refuses(void)
+{
+    struct call c = { BIND, 0, 0, 1, 2, 3 };
+    unsigned kind;
+
+    check(!model_sound(store.bytes, store.len), "the model finds it sound");
+    for (kind = 0; kind < CALL_KINDS; kind++) {
+        c.kind = (enum call_kind)kind;
+        refuses(&c, KN_DAMAGED);
+    }
+}
+
+/* ---- Clauses that one byte breaks ---- */
+
+struct clause {
+    const char *name;
+    unsigned at, span; /* each of these bytes by itself... */
+    uint8_t byte;      /* ...becomes this one              */
+};
+
+static const struct clause clauses[] = {
+    { "made is 0", HEAD_MADE, 1, 0 },
+    { "a cell's state is 2", CELL(2), 1, 2 },
+    { "a cell's state is 255", CELL(0), 1, 255 },
+    { "an unbound cell is not zero", CELL(2) + 1, 4, 1 },
+    { "an out binding's stored state is 2", NODE(4) + STATE, 1, 2 },
+    { "an in binding's stored state is 2", NODE(1) + STATE, 1, 2 },
+    { "an unbound stored cell is not zero", NODE(3) + VALUE, 4, 1 },
+    { "node 0 is blank", NODE(0), 1, 0 },
+    { "node 0 is a binding out", NODE(0), 1, 2 },
+    { "node 0 is a binding in", NODE(0), 1, 3 },
+    { "node 0 is a wind out", NODE(0), 1, 4 },
+    { "node 0 is a wind in", NODE(0), 1, 5 },
+    { "node 0 is not zero otherwise", NODE(0) + 1, 11, 1 },
+    { "a made wind is blank", NODE(5), 1, 0 },
+    { "a made binding is blank", NODE(4), 1, 0 },
+    { "a made wind is a top", NODE(5), 1, 1 },
+    { "a made binding is a top", NODE(4), 1, 1 },
+    { "a made binding has kind 6", NODE(4), 1, 6 },
+    { "a made wind has kind 6", NODE(5), 1, 6 },
+    { "a node on the path has kind 7", NODE(2), 1, 7 },
+    { "a made node has kind 255", NODE(5), 1, 255 },
+    { "a parent is the node itself", NODE(5) + PARENT, 1, 5 },
+    { "a parent is above its node", NODE(4) + PARENT, 1, 5 },
+    { "a parent is not made", NODE(5) + PARENT, 1, 7 },
+    { "a parent is out of range by its high byte", NODE(5) + PARENT + 1, 1, 1 },
+    { "the focus is its own parent", NODE(3) + PARENT, 1, 3 },
+    { "a node on the path is its own parent", NODE(1) + PARENT, 1, 1 },
+    { "an out binding's variable is V", NODE(4) + NAME, 1, VARS },
+    { "an in binding's variable is V", NODE(3) + NAME, 1, VARS },
+    { "a variable is out of range by its high byte", NODE(4) + NAME + 1, 1, 1 },
+    { "an out binding has a postlude", NODE(4) + POSTLUDE, 2, 1 },
+    { "an in binding has a postlude", NODE(1) + POSTLUDE, 2, 1 },
+    { "an out wind has a stored state", NODE(5) + STATE, 1, 1 },
+    { "an in wind has a stored state", NODE(2) + STATE, 1, 1 },
+    { "an out wind has a stored value", NODE(5) + VALUE, 4, 1 },
+    { "an in wind has a stored value", NODE(2) + VALUE, 4, 1 },
+    { "a binding off the path is in", NODE(4), 1, 3 },
+    { "a wind off the path is in", NODE(5), 1, 5 },
+    { "the focus is out", NODE(3), 1, 2 },
+    { "a binding on the path is out", NODE(1), 1, 2 },
+    { "a wind on the path is out", NODE(2), 1, 4 },
+    { "the first blank node is not zero", NODE(6), 12, 1 },
+    { "the last blank node is not zero", NODE(7), 12, 2 }
+};
+
+static void one_byte(const struct clause *c)
+{
+    struct model m;
+    unsigned i;
+
+    check_name(c->name);
+    for (i = 0; i < c->span; i++) {
+        base_store(&m, VARS, NODES);
+        lend(&m, i % 2);
+        store.bytes[c->at + i] = c->byte;
+        every_call_refuses();
+    }
+}
+
+/* ---- Clauses of the header and the length ---- */
+
+static void too_short(void)
+{
+    struct model m;
+    size_t len;
+
+    check_name("the buffer is shorter than the size");
+    base_store(&m, VARS, NODES);
+    for (len = 0; len < KN_SIZE(VARS, NODES); len++) {
+        uint8_t whole[KN_SIZE(VARS, NODES)];
+        model_write(&m, whole);
+        lent_take(&store, len);
+        memcpy(store.bytes, whole, len);
+        every_call_refuses();
+    }
+}
+
+/* A store whose numbers are out of range, else laid out as they say. The
+   model's limits hold, so it is written for fewer and then spread. */
+static void laid_out(unsigned vars, unsigned nodes)
+{
+    static struct model m;
+    uint8_t within[KN_SIZE(VARS, NODES)];
+
+    base_store(&m, VARS, NODES);
+    m.node[3].var = m.node[4].var = 0;
+    m.focus = 0;
+    model_write(&m, within);
+    lent_take(&store, KN_SIZE(vars, nodes));
+    memset(store.bytes, 0, store.len);
+    memcpy(store.bytes, within, KN_HEADER_BYTES);
+    memcpy(store.bytes + KN_SIZE(vars, 0), within + NODE(0),
+           (nodes < NODES ? nodes : NODES) * (size_t)KN_NODE_BYTES);
+    store.bytes[HEAD_VARS] = (uint8_t)vars;
+    store.bytes[HEAD_VARS + 1] = (uint8_t)(vars >> 8);
+    store.bytes[HEAD_NODES] = (uint8_t)nodes;
+    store.bytes[HEAD_NODES + 1] = (uint8_t)(nodes >> 8);
+}
+
+static void out_of_range(const char *name, unsigned vars, unsigned nodes)
+{
+    check_name(name);
+    laid_out(vars, nodes);
+    every_call_refuses();
+}
+
+static void no_variables(void)
+{
+    check_name("V is 0");
+    laid_out(0, NODES);
+    store.bytes[HEAD_MADE] = 1;
+    memset(store.bytes + KN_SIZE(0, 1), 0, (NODES - 1) * KN_NODE_BYTES);
+    every_call_refuses();
+}
+
+/* All of N made, and a further node past them in the buffer. */
+static void made_above_nodes(void)
+{
+    struct model m;
+
+    check_name("made is above N");
+    base_store(&m, VARS, NODES);
+    m.node[6] = m.node[7] = m.node[4];
+    m.made = NODES;
+    lend(&m, KN_NODE_BYTES);
+    check(model_sound(store.bytes, store.len), "sound before");
+    memcpy(store.bytes + NODE(8), store.bytes + NODE(7), KN_NODE_BYTES);
+    store.bytes[HEAD_MADE] = NODES + 1;
+    every_call_refuses();
+}
+
+static void focus_not_made(const char *name, unsigned focus)
+{
+    struct model m;
+
+    check_name(name);
+    base_store(&m, VARS, NODES);
+    m.focus = 0;
+    lend(&m, 0);
+    store.bytes[HEAD_FOCUS] = (uint8_t)focus;
+    store.bytes[HEAD_FOCUS + 1] = (uint8_t)(focus >> 8);
+    every_call_refuses();
+}
+
+/* As many are in as the path is long, but they are others. */
+static void others_are_in(void)
+{
+    struct model m;
+
+    check_name("the focus is out, and a node off the path is in");
+    base_store(&m, VARS, NODES);
+    lend(&m, 0);
+    store.bytes[NODE(3) + KIND] = 2;
+    store.bytes[NODE(4) + KIND] = 3;
+    every_call_refuses();
+}
+
+static void the_base_is_sound(void)
+{
+    struct model m;
+
+    check_name("the store that the clauses break is sound");
+    base_store(&m, VARS, NODES);
+    lend(&m, 0);
+    check_answer(kn_here(store.bytes, store.len), done(3, 0, 0), "here");
+    laid_out(KN_MAX_VARS, KN_MAX_NODES);
+    check_answer(kn_here(store.bytes, store.len), done(0, 0, 0),
+                 "here at the limits");
+}
+
+void test_clauses(void)
+{
+    unsigned i;
+
+    lent_take(&trace, 3 * KN_EVENT_BYTES);
+    the_base_is_sound();
+    for (i = 0; i < sizeof clauses / sizeof clauses[0]; i++)
+        one_byte(&clauses[i]);
+    too_short();
+    no_variables();
+    out_of_range("V is 257", KN_MAX_VARS + 1, NODES);
+    out_of_range("N is 0", VARS, 0);
+    out_of_range("N is 2,049", VARS, KN_MAX_NODES + 1);
+    made_above_nodes();
+    others_are_in();
+    focus_not_made("the focus is made", 6);
+    focus_not_made("the focus is N", NODES);
+    focus_not_made("the focus is 65,535", 65535);
+}

@@ -1,0 +1,171 @@
+/*
+ * kestrelnib.h - a binding store for the scripts on a monitor board.
+ *
+ * A store lives in one buffer that you lend to each call. It holds variables
+ * and environments, both numbered from 0. Environment 0 is the top; every
+ * other one is a binding of one variable or a wind, and has one parent. One
+ * environment is the focus. Values are 32-bit signed numbers.
+ *
+ * Link with libkestrelnib.a. The library allocates nothing, keeps nothing
+ * between calls, and needs memcpy, memmove and memset at most.
+ *
+ * Your one duty: buffers lent to one call don't overlap.
+ *
+ * Buffers.  A buffer is a pointer and its length in bytes, at any alignment.
+ *   A length of 0 is allowed with any pointer, NULL too. A store buffer may be
+ *   longer than the store: bytes past the size are never read or written.
+ *
+ * Answers.  Every call takes every input. The lowest code that applies is
+ *   given. Beside a refusal's code all other numbers are 0, and no byte of
+ *   store or trace has changed.
+ *
+ * Numbers.  vars, nodes, x and a are 32-bit: one that is too large is refused
+ *   and never cut off. p and q are 16-bit and every one is good: C converts a
+ *   larger number before the call.
+ *
+ * Stack.  A walk calls itself once for each environment it enters or leaves.
+ *   At the limits no call needs more than 100 KiB; docs/FIGURES.md gives the
+ *   measured need of each call.
+ *
+ * Example: a direction bound around a place, left, and entered again.
+ *
+ *     static uint8_t store[KN_SIZE(1, 4)], trace[2 * KN_EVENT_BYTES];
+ *     const uint8_t tops[KN_CELL_BYTES] = { 1, 1, 0, 0, 0 };
+ *     kn_answer r = kn_open(1, 4, tops, sizeof tops, store, sizeof store);
+ *     r = kn_bind(store, sizeof store, 0, -1);
+ *     r = kn_wind(store, sizeof store, trace, sizeof trace, 10, 11);
+ *     uint32_t place = (uint32_t)kn_here(store, sizeof store).out;
+ *     r = kn_goto(store, sizeof store, trace, sizeof trace, 0);
+ *     int32_t up = kn_look(store, sizeof store, 0).out;
+ *     r = kn_goto(store, sizeof store, trace, sizeof trace, place);
+ *     int32_t down = kn_look(store, sizeof store, 0).out;
+ *
+ * Then up is 1, down is -1, and r says: code 0, out 2, moves 2, events 1.
+ */
+#ifndef KESTRELNIB_H
+#define KESTRELNIB_H
+
+#include <stddef.h>
+#include <stdint.h>
+
+#ifdef __cplusplus
+extern "C" {
+#endif
+
+/* ---- Limits and sizes --------------------------------------------------- */
+
+enum kn_constant {
+    KN_MAX_VARS     = 256,  /* variables of a store: 1 to this             */
+    KN_MAX_NODES    = 2048, /* environments, the top counted: 1 to this    */
+    KN_HEADER_BYTES = 8,
+    KN_CELL_BYTES   = 5,    /* state (0 unbound, 1 value), value (4)       */
+    KN_NODE_BYTES   = 12,
+    KN_EVENT_BYTES  = 5     /* what (1), thunk (2), place (2)              */
+};
+
+/* Bytes of a store. All numbers in it are little endian. */
+#define KN_SIZE(vars, nodes)                   \
+    ((size_t)KN_HEADER_BYTES                   \
+     + (size_t)KN_CELL_BYTES * (size_t)(vars)  \
+     + (size_t)KN_NODE_BYTES * (size_t)(nodes))
+
+/* ---- Answers ------------------------------------------------------------ */
+
+enum kn_code {
+    KN_DONE           = 0,
+    KN_SETUP          = 1, /* open: a number out of range, top cells not as
+                              described, or the buffer too short           */
+    KN_DAMAGED        = 2, /* any other call: these bytes are no store     */
+    KN_NO_VARIABLE    = 3, /* x is not below vars                          */
+    KN_NO_ENVIRONMENT = 4, /* a is not made                                */
+    KN_UNBOUND        = 5, /* look, peek or set finds no value             */
+    KN_FULL           = 6, /* bind or wind with no environment of room     */
+    KN_TRACE_ROOM     = 7, /* more events than the trace has room for      */
+    KN_TOP            = 8, /* back with the focus at the top               */
+    KN_LINE           = 9  /* the card program's; no call here gives it    */
+};
+
+typedef struct kn_answer {
+    int32_t  out;    /* look, peek: the value; else an environment's number */
+    uint16_t code;
+    uint16_t moves;  /* goto, back: environments left and entered           */
+    uint16_t events; /* wind, goto, back: events written to the trace       */
+} kn_answer;
+
+/* ---- The trace ---------------------------------------------------------- */
+
+/* Events stand from the buffer's start, KN_EVENT_BYTES each: what happens,
+   the thunk's number, the place where it is to run. Its room is the length
+   divided by KN_EVENT_BYTES, rounded down; bytes after the written events
+   keep their contents. Running the thunks, in order, is up to you. */
+enum kn_event {
+    KN_LEAVING  = 0, /* thunk: the postlude; place: the wind itself        */
+    KN_ENTERING = 1  /* thunk: the prelude; place: the wind's parent       */
+};
+
+/* ---- Opening ------------------------------------------------------------ */
+
+/* Writes a new store: only the top is made and is the focus. The top values
+   come as vars cells, tops_len = vars * KN_CELL_BYTES exactly; an unbound
+   cell is all zero. Answers 0. Refusals: SETUP. */
+kn_answer kn_open(uint32_t vars, uint32_t nodes,
+                  const uint8_t *tops, size_t tops_len,
+                  uint8_t *store, size_t store_len);
+
+/* ---- Making environments ------------------------------------------------ */
+
+/* Both make a child of the focus, which becomes the focus, and answer its
+   number: the lowest not yet made. No environment is freed. */
+
+/* Binds x to v. Refusals: DAMAGED, NO_VARIABLE, FULL. */
+kn_answer kn_bind(uint8_t *store, size_t store_len, uint32_t x, int32_t v);
+
+/* A wind with prelude p and postlude q; writes one event, entering p.
+   Refusals: DAMAGED, FULL, TRACE_ROOM. */
+kn_answer kn_wind(uint8_t *store, size_t store_len,
+                  uint8_t *trace, size_t trace_len, uint16_t p, uint16_t q);
+
+/* ---- Values ------------------------------------------------------------- */
+
+/* The value of x in an environment is that of the nearest binding of x on
+   the way to the top, itself first; else the top value. */
+
+/* The value at the focus. Refusals: DAMAGED, NO_VARIABLE, UNBOUND. */
+kn_answer kn_look(const uint8_t *store, size_t store_len, uint32_t x);
+
+/* The value at a, with nothing moved.
+   Refusals: DAMAGED, NO_VARIABLE, NO_ENVIRONMENT, UNBOUND. */
+kn_answer kn_peek(const uint8_t *store, size_t store_len,
+                  uint32_t a, uint32_t x);
+
+/* Changes the binding (or top value) that decides x at the focus. Answers
+   the focus. Refusals: DAMAGED, NO_VARIABLE, UNBOUND. */
+kn_answer kn_set(uint8_t *store, size_t store_len, uint32_t x, int32_t v);
+
+/* ---- Places ------------------------------------------------------------- */
+
+/* Answers the focus. Refusals: DAMAGED. */
+kn_answer kn_here(const uint8_t *store, size_t store_len);
+
+/* Moves the focus to a by the shortest way and writes an event for each wind
+   left or entered. Answers a, the moves and the events.
+   Refusals: DAMAGED, NO_ENVIRONMENT, TRACE_ROOM. */
+kn_answer kn_goto(uint8_t *store, size_t store_len,
+                  uint8_t *trace, size_t trace_len, uint32_t a);
+
+/* Goto the focus's parent. Refusals: DAMAGED, TRACE_ROOM, TOP. */
+kn_answer kn_back(uint8_t *store, size_t store_len,
+                  uint8_t *trace, size_t trace_len);
+
+/* ---- The library's own constants ---------------------------------------- */
+
+/* For a test that header and library agree: which = 0 to 5 gives KN_MAX_VARS,
+   KN_MAX_NODES, KN_HEADER_BYTES, KN_CELL_BYTES, KN_NODE_BYTES and
+   KN_EVENT_BYTES; any other number gives 0. */
+uint32_t kn_limit(uint32_t which);
+
+#ifdef __cplusplus
+}
+#endif
+
+#endif
