@@ -1,7 +1,10 @@
 // The store's sizes and limits, written once: the code cites these constants, the definitions cite `limits`,
-// and `limits()` is proved to make them one.
+// and `limits()` is proved to make them one. And the bytes of a value, which open's top cells need as the store does.
 ghost use mathlib.Core.Path.{_≡_};
+ghost use mir.Syntax.{w32};
+ghost use mir.Val.{ofZ};
 ghost use Rattle.layout.specs.Limits.{limits};
+ghost use Rattle.layout.specs.Records.{valueC};
 
 // The store that the caller lends as bytes.
 pub struct Store {}
@@ -48,4 +51,29 @@ pub fn limits() -> Sizes
         node: Store::NODE,
         event: Store::EVENT,
     }
+}
+
+// The 32 bits of a value, in two's complement.
+fn to_bits(v: i32) -> u32
+    ensures { λ r. ⌜ r ≡ ofZ w32 v ⌝ }
+{
+    if 0 <= v {
+        v as u32
+    } else {
+        4_294_967_295 - (-1 - v) as u32
+    }
+}
+
+// The bare cell of the value v.
+pub fn value_cell(v: i32) -> [u8; Store::BARE]
+    ensures { λ r. ⌜ r ≡ valueC v ⌝ }
+{
+    let b = to_bits(v);
+    [
+        1,
+        (b % 256) as u8,
+        (b / 256 % 256) as u8,
+        (b / 65_536 % 256) as u8,
+        (b / 16_777_216 % 256) as u8,
+    ]
 }

@@ -95,7 +95,7 @@ fn set_at(s: &mut [u8], x: usize, v: i32) -> Answer
     ensures { λ r. ⌜ (r ≡ Answer.Number (focus (now (s .entry)))) × (now (s .exit) ≡ setB (now (s .entry)) x v) ⌝ }
 {
     let f = records::focus_of(s);
-    records::set_cell(s, x, number::value_cell(v));
+    records::set_cell(s, x, layout::value_cell(v));
     Answer::Number(f as u16)
 }
 
@@ -125,7 +125,7 @@ fn bind_at(s: &mut [u8], x: usize, v: i32) -> Answer
     let n = made::next_of(s);
     let c = records::bare_of(records::cell(s, x));
     made::grow(s, 3, x, 0, c);
-    records::set_cell(s, x, number::value_cell(v));
+    records::set_cell(s, x, layout::value_cell(v));
     Answer::Made(New {
         node: n as u16,
         events: 0,

@@ -4,9 +4,9 @@ ghost use mathlib.Core.List.{List, [], _∷_};
 ghost use Prim.Native.Nat.{ℕ, _+_, _<_, _≤_};
 ghost use lib.ListN.{length, getD};
 ghost use mir.Syntax.{w32};
-ghost use mir.Val.{ofZ, toZ};
+ghost use mir.Val.{toZ};
 ghost use Rattle.layout.specs.Bytes.{u16, put16};
-ghost use Rattle.layout.specs.Records.{bitsC, valueC};
+ghost use Rattle.layout.specs.Records.{bitsC};
 use layout::Store;
 
 pub(crate) fn wide(b: u8) -> usize
@@ -37,17 +37,6 @@ pub(crate) fn put16_at(p: &mut [u8], o: usize, v: usize)
     p[o + 1] = (v / 256) as u8;
 }
 
-// The 32 bits of a value, in two's complement.
-fn to_bits(v: i32) -> u32
-    ensures { λ r. ⌜ r ≡ ofZ w32 v ⌝ }
-{
-    if 0 <= v {
-        v as u32
-    } else {
-        4_294_967_295 - (-1 - v) as u32
-    }
-}
-
 // The value with the bits b.
 fn of_bits(b: u32) -> i32
     ensures { λ r. ⌜ r ≡ toZ w32 b ⌝ }
@@ -57,20 +46,6 @@ fn of_bits(b: u32) -> i32
     } else {
         -1 - (4_294_967_295 - b) as i32
     }
-}
-
-// The bare cell of the value v.
-pub(crate) fn value_cell(v: i32) -> [u8; Store::BARE]
-    ensures { λ r. ⌜ r ≡ valueC v ⌝ }
-{
-    let b = to_bits(v);
-    [
-        1,
-        (b % 256) as u8,
-        (b / 256 % 256) as u8,
-        (b / 65_536 % 256) as u8,
-        (b / 16_777_216 % 256) as u8,
-    ]
 }
 
 // The value in a bare cell.

@@ -1,0 +1,57 @@
+use Prim.Native.Nat.{_≤_, _-_}
+use borrow.Author.Needs.{needs}
+use Rattle.agree.proofs.image.take_cells.Statement.{statement}
+use Rattle.agree.proofs.image.take_cells.Tie as tie
+
+abbrev Inv-loop : tie.InvT-loop
+Inv-loop b m₀ end x₀ m x = x ≤ end
+
+abbrev μ-loop : tie.MeasureT-loop
+μ-loop b m₀ end x₀ m x = end - x
+
+head-requires : tie.Need-head-requires Inv-loop μ-loop
+head-requires c κs = search needs
+
+loop-holds : tie.Need-loop-holds Inv-loop μ-loop
+loop-holds c = search needs
+
+place-requires : tie.Need-place-requires Inv-loop μ-loop
+place-requires c κs = search needs
+
+plus-requires : tie.Need-plus-requires Inv-loop μ-loop
+plus-requires c κs = search needs
+
+cell-requires : tie.Need-cell-requires Inv-loop μ-loop
+cell-requires c κs = search needs
+
+put-requires : tie.Need-put-requires Inv-loop μ-loop
+put-requires c κs = search needs
+
+add-x : tie.Need-add-x Inv-loop μ-loop
+add-x c = search needs
+
+loop-less : tie.Need-loop-less Inv-loop μ-loop
+loop-less c = search needs
+
+loop-again : tie.Need-loop-again Inv-loop μ-loop
+loop-again c = search needs
+
+returns : tie.Need-returns Inv-loop μ-loop
+returns c = search needs
+
+pub take-cells-spec : {M : Type 1} → statement M
+take-cells-spec =
+    tie.close
+    (tie.spec
+    Inv-loop
+    μ-loop
+    head-requires
+    loop-holds
+    place-requires
+    plus-requires
+    cell-requires
+    put-requires
+    add-x
+    loop-less
+    loop-again
+    returns)

@@ -1,0 +1,51 @@
+use mathlib.Core.Path.{_≡_}
+use Prim.Native.Nat.{_≤_, _-_}
+use borrow.Author.Needs.{needs}
+use lib.ListN.{length}
+use Rattle.agree.proofs.model.leave_all.Statement.{statement}
+use Rattle.agree.proofs.model.leave_all.Tie as tie
+
+abbrev Inv-loop : tie.InvT-loop
+Inv-loop m p n notes₀ e₀ k₀ notes e k = (k ≤ n) × (length notes ≡ length notes₀)
+
+abbrev μ-loop : tie.MeasureT-loop
+μ-loop m p n notes₀ e₀ k₀ notes e k = n - k
+
+loop-holds : tie.Need-loop-holds Inv-loop μ-loop
+loop-holds c = search needs
+
+item-requires : tie.Need-item-requires Inv-loop μ-loop
+item-requires c κs = search needs
+
+leave-requires : tie.Need-leave-requires Inv-loop μ-loop
+leave-requires c κs = search needs
+
+add-k : tie.Need-add-k Inv-loop μ-loop
+add-k c = search needs
+
+loop-less : tie.Need-loop-less Inv-loop μ-loop
+loop-less c = search needs
+
+loop-again : tie.Need-loop-again Inv-loop μ-loop
+loop-again c = search needs
+
+same-length : tie.Need-same-length Inv-loop μ-loop
+same-length c = search needs
+
+returns : tie.Need-returns Inv-loop μ-loop
+returns c = search needs
+
+pub leave-all-spec : {M : Type 1} → statement M
+leave-all-spec =
+    tie.close
+    (tie.spec
+    Inv-loop
+    μ-loop
+    loop-holds
+    item-requires
+    leave-requires
+    add-k
+    loop-less
+    loop-again
+    same-length
+    returns)

@@ -1,0 +1,37 @@
+-- `play::play` is safe and ends. Assumes nothing.
+use borrow.Author.Needs.{needs}
+use Rattle.play.proofs.play.Statement.{statement}
+use Rattle.play.proofs.play.Tie as tie
+
+check-requires : tie.Need-check-requires
+check-requires c κs = search needs
+
+enum-told : tie.Need-enum-told
+enum-told c = search needs
+
+run-card-requires : tie.Need-run-card-requires
+run-card-requires c κs = (rw (c .enum-told .given .1) at (c .before .before .check .ensures)) .0
+
+enum-known-line : tie.Need-enum-known-line
+enum-known-line c = search needs
+
+refuse-requires : tie.Need-refuse-requires
+refuse-requires c κs = search needs
+
+returns : tie.Need-returns
+returns c = search needs
+
+returns-2 : tie.Need-returns-2
+returns-2 c = search needs
+
+pub play-spec : {M : Type 1} → statement M
+play-spec =
+    tie.close
+    (tie.spec
+    check-requires
+    enum-told
+    run-card-requires
+    enum-known-line
+    refuse-requires
+    returns
+    returns-2)

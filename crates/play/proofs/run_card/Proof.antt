@@ -1,0 +1,48 @@
+-- `play::run_card` is safe and ends. Assumes nothing.
+use native.Mathlib.Omega.{arith}
+use borrow.Author.Needs.{needs}
+use Rattle.play.proofs.run_card.Statement.{statement}
+use Rattle.play.proofs.run_card.Tie as tie
+
+read-heads-requires : tie.Need-read-heads-requires
+read-heads-requires c κs = search needs
+
+enum-known-heads : tie.Need-enum-known-heads
+enum-known-heads c = search needs
+
+enum-told : tie.Need-enum-told
+enum-told c = search needs
+
+returns : tie.Need-returns
+returns c = search needs
+
+slice-aggregate-run-in : tie.Need-slice-aggregate-run-in
+slice-aggregate-run-in c = search needs
+
+slice-aggregate-run-in-2 : tie.Need-slice-aggregate-run-in-2
+slice-aggregate-run-in-2 c = search needs
+
+slice-aggregate-run-in-3 : tie.Need-slice-aggregate-run-in-3
+slice-aggregate-run-in-3 c = search needs
+
+run-in-requires : tie.Need-run-in-requires
+run-in-requires c κs =
+    let h = rw (c .before .before .before .before .heads .given .1) at (c .before .before .before .before .before .before .read-heads .ensures) in
+    ((search needs, h .2), (omega (arith, h .0), omega (arith, h .1)))
+
+returns-2 : tie.Need-returns-2
+returns-2 c = search needs
+
+pub run-card-spec : {M : Type 1} → statement M
+run-card-spec =
+    tie.close
+    (tie.spec
+    read-heads-requires
+    enum-known-heads
+    enum-told
+    returns
+    slice-aggregate-run-in
+    slice-aggregate-run-in-2
+    slice-aggregate-run-in-3
+    run-in-requires
+    returns-2)

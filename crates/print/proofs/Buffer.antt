@@ -1,0 +1,30 @@
+-- A text written into a buffer byte by byte: one byte more, and where it ends. Assumes nothing.
+use mathlib.Core.Path.{_≡_, sym, _∙_}
+use mathlib.Core.List.{List, [], _∷_, _++_, append-assoc}
+use Prim.Native.Nat.{ℕ, suc, _+_, _<_}
+use native.Mathlib.Numerals.{add-one}
+use native.Mathlib.Omega.{arith}
+use lib.ListN.{length, take, drop, set, take-append-drop}
+use lib.Seq.{take-suc-set, drop-set-lt}
+use Rattle.print.specs.Writing.{Wrote}
+
+-- what the buffer is to hold in the end, with a text still to be written at p
+abbrev pub ahead : List ℕ → List ℕ → ℕ → List ℕ
+ahead out todo p = take p out ++ (todo ++ drop (p + length todo) out)
+
+pub stored : (out : List ℕ) (b : ℕ) (todo : List ℕ) (p : ℕ) → p < length out → ahead (set out p b) todo (p + 1) ≡ ahead out (b ∷ todo) p
+stored out b todo p h =
+    let e : p + 1 + length todo ≡ p + suc (length todo) = omega arith in
+    let g : p < p + suc (length todo) = omega arith in
+    rw (e, drop-set-lt (p + suc (length todo)) out p b g, add-one, take-suc-set out p b h, append-assoc)
+
+pub ended : (out : List ℕ) (p : ℕ) → ahead out [] p ≡ out
+ended out p = let e : p + 0 ≡ p = omega arith in rw e (take-append-drop p out)
+
+-- nothing is left to be written
+pub closed : {before text after : List ℕ} {at next : ℕ} (p : ℕ) → next ≡ at + length text → ahead after [] p ≡ ahead before text at → Wrote before at text after next
+closed {before} {text} {after} {at} {next} p e f = record { place = e; bytes = sym (ended after p) ∙ f ∙ rw (← e) }
+
+-- the same text in other words
+pub reworded : {before s t after : List ℕ} {at next : ℕ} → s ≡ t → Wrote before at s after next → Wrote before at t after next
+reworded {before} {s} {t} {after} {at} {next} e f = rw e at f

@@ -1,0 +1,43 @@
+-- The text that a run prints (document 01, "The card"): the line of an operation, of an event, and of a card that is no good.
+-- Assumes nothing: these are definitions.
+use mathlib.Core.Bool.{Bool, true, false}
+use mathlib.Core.List.{List, _++_}
+use Prim.Native.Nat.{ℕ}
+use Rattle.text.specs.Words.{bytes}
+use Rattle.text.specs.Decimal.{decimal, whole}
+use Rattle.print.specs.declared.Out.{Out}
+use Rattle.print.specs.declared.Out.the-variants.{None, Number, Value}
+use Rattle.print.specs.declared.Report.{Report}
+
+-- the answer, and none on a refusal
+abbrev pub outText : Out → List ℕ
+outText None = bytes "none"
+outText (Number n) = decimal n
+outText (Value v) = whole v
+
+-- a word and a number behind it
+abbrev pub field : List ℕ → ℕ → List ℕ
+field w n = w ++ decimal n
+
+-- the line of an operation
+unfoldable pub opLine : Report → List ℕ
+opLine r =
+    field (bytes "op=") (r .op)
+    ++ field (bytes " code=") (r .code)
+    ++ bytes " out="
+    ++ outText (r .out)
+    ++ field (bytes " moves=") (r .moves)
+    ++ field (bytes " events=") (r .events)
+    ++ bytes "\n"
+
+-- the line of an event
+abbrev pub kindText : Bool → List ℕ
+kindText true = bytes "enter="
+kindText false = bytes "leave="
+
+unfoldable pub eventLine : Bool → ℕ → ℕ → List ℕ
+eventLine entering thunk place = field (kindText entering) thunk ++ field (bytes "@") place ++ bytes "\n"
+
+-- the one line of a card that is no good
+unfoldable pub badLine : ℕ → List ℕ
+badLine n = field (bytes "line=") n ++ bytes " code=9\n"

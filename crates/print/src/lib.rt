@@ -1,0 +1,101 @@
+// The lines that a run prints, each written from the front of a lent line buffer; the answer is its length.
+mod writing;
+
+use crate::writing::put_natural;
+use crate::writing::put_text;
+use crate::writing::put_whole;
+ghost use Prim.Native.Nat.{_+_, _≤_};
+ghost use mathlib.Core.List.{_++_};
+ghost use lib.ListN.{length};
+ghost use Rattle.text.specs.Decimal.{decimal};
+ghost use Rattle.print.specs.Printed.{field, outText, kindText, opLine, eventLine, badLine};
+ghost use Rattle.print.specs.Writing.{Wrote};
+
+// The longest line, with room for a further field.
+pub struct Print {}
+
+impl Print {
+    pub const LINE: usize = 96;
+}
+
+// What a call answers: nothing on a refusal, else a number or a value.
+pub enum Out {
+    None,
+    Number(u32),
+    Value(i32),
+}
+
+// What is printed of one operation: its number, the answer number, the answer, moves and events.
+pub struct Report {
+    pub op: u32,
+    pub code: u32,
+    pub out: Out,
+    pub moves: u32,
+    pub events: u32,
+}
+
+// A word and a number behind it.
+fn put_field(word: &[u8], n: u32, out: &mut [u8], at: usize) -> usize
+    requires { ⌜ at + length (now word) + 10 ≤ length (now out) ⌝ }
+    ensures { λ r. ⌜ Wrote (now (out .entry)) at (now (word .entry) ++ decimal n) (now (out .exit)) r ⌝ }
+    ensures { λ r. ⌜ r ≤ at + length (now (word .entry)) + 10 ⌝ }
+{
+    let next = put_text(word, out, at);
+    put_natural(n, out, next)
+}
+
+// A thunk that is entered or left.
+fn put_kind(entering: bool, thunk: u32, out: &mut [u8]) -> usize
+    requires { ⌜ 16 ≤ length (now out) ⌝ }
+    ensures { λ r. ⌜ Wrote (now (out .entry)) 0 (field (kindText entering) thunk) (now (out .exit)) r ⌝ }
+    ensures { λ r. ⌜ r ≤ 16 ⌝ }
+{
+    if entering {
+        return put_field(b"enter=", thunk, out, 0);
+    }
+    put_field(b"leave=", thunk, out, 0)
+}
+
+// The answer, or none.
+fn put_out(o: Out, out: &mut [u8], at: usize) -> usize
+    requires { ⌜ at + 11 ≤ length (now out) ⌝ }
+    ensures { λ r. ⌜ Wrote (now (out .entry)) at (outText o) (now (out .exit)) r ⌝ }
+    ensures { λ r. ⌜ r ≤ at + 11 ⌝ }
+{
+    match o {
+        Out::None => put_text(b"none", out, at),
+        Out::Number(n) => put_natural(n, out, at),
+        Out::Value(v) => put_whole(v, out, at),
+    }
+}
+
+// The line of one operation.
+pub fn put_op(report: Report, out: &mut [u8; Print::LINE]) -> usize
+    ensures { λ r. ⌜ Wrote (now (out .entry)) 0 (opLine report) (now (out .exit)) r ⌝ }
+{
+    let o = report.out;
+    let a = put_field(b"op=", report.op, out, 0);
+    let b = put_field(b" code=", report.code, out, a);
+    let c = put_text(b" out=", out, b);
+    let d = put_out(o, out, c);
+    let e = put_field(b" moves=", report.moves, out, d);
+    let f = put_field(b" events=", report.events, out, e);
+    put_text(b"\n", out, f)
+}
+
+// The line of one trace event: the thunk entered or left, and its place.
+pub fn put_event(entering: bool, thunk: u16, place: u32, out: &mut [u8; Print::LINE]) -> usize
+    ensures { λ r. ⌜ Wrote (now (out .entry)) 0 (eventLine entering thunk place) (now (out .exit)) r ⌝ }
+{
+    let a = put_kind(entering, thunk as u32, out);
+    let b = put_field(b"@", place, out, a);
+    put_text(b"\n", out, b)
+}
+
+// The one line of a card that is no good: its first bad line, and the answer number for that.
+pub fn put_bad(line: u32, out: &mut [u8; Print::LINE]) -> usize
+    ensures { λ r. ⌜ Wrote (now (out .entry)) 0 (badLine line) (now (out .exit)) r ⌝ }
+{
+    let a = put_field(b"line=", line, out, 0);
+    put_text(b" code=9\n", out, a)
+}
