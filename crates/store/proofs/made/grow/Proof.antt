@@ -1,4 +1,8 @@
+-- `grow` meets its contract: the chain of its calls is `growB`.
+use mathlib.Core.Path.{_∙_}
+use Prim.Native.Nat.{_+_}
 use native.Mathlib.Omega.{arith}
+use Rattle.layout.specs.Records.{withFocus, withMade, withNode, nodeB}
 use Rattle.layout.specs.Writes.{growB}
 use Rattle.layout.specs.SoundLaws.{sound-fit}
 use Rattle.layout.specs.GrowLaws.{space-left}
@@ -29,7 +33,18 @@ same-length c = search needs
 
 returns : tie.Need-returns
 unfolding growB
-returns c = cc
+returns c =
+    let set-made = c .before .before .before .before .before .before in
+    let set-node = set-made .before .before .before .before in
+    let focus-of = set-node .before .before in
+    let made-of = focus-of .before .before in
+    let st = made-of .before .before .before in
+    let args = st .args in
+    let n = made-of .made-of .ensures .0 in
+    let f = focus-of .focus-of .ensures .0 in
+    let t = set-node .set-node .ensures ∙ (λ i. withNode (args .s .now) (n i) (nodeB (args .k) (f i) (args .a) (args .b) (args .c))) in
+    let u = set-made .set-made .ensures ∙ (λ i. withMade (t i) (n i + 1)) in
+    c .before .before .set-focus .ensures ∙ (λ i. withFocus (u i) (n i))
 
 pub grow-spec : {M : Type 1} → statement M
 grow-spec =

@@ -1,9 +1,8 @@
 -- The proof of the cycle of calls {walk}. The measure is the distance that remains: a call for the parent is nearer by one,
 -- and so is a call after one leave. What the calls come to is said in WalkLaws, which is handed what they ensure.
 use Prim.Native.Nat.{ℕ, _<_}
-use mathlib.Core.Path.{_≡_, sym, _∙_}
+use mathlib.Core.Path.{_≡_, sym, ap, _∙_}
 use mathlib.Core.Logic.{_≢_, ⊎-elim}
-use mathlib.Core.Bool.{false}
 use native.Mathlib.Omega.{arith}
 use borrow.Author.Needs.{needs}
 use borrow.Fn.Kinds.{In}
@@ -46,12 +45,17 @@ module _ (t : ℕ) where
   apart : (c : lts.Else1 (cs t) (walk-at t) walk.Post) → start c .args .a ≢ focus (start c .args .s .now)
   apart c e = c .if1 .left (e ∙ sym (c .before .focus-of .ensures .0))
 
-  inside : (c : lts.Else2 (cs t) (walk-at t) walk.Post) → isOut (kindN (nodeOf (start (c .before .before .before .before) .args .s .now) (start (c .before .before .before .before) .args .a))) ≡ false
-  inside c = cc
+  -- what is tested is the target's mode
+  tested : (c : lts.After-is-out (cs t) (walk-at t) walk.Post) → c .is-out .result ≡ isOut (kindN (nodeOf (start (c .before .before .before) .args .s .now) (start (c .before .before .before) .args .a)))
+  tested c = c .is-out .ensures ∙ ap isOut (c .before .kind-of .ensures)
 
   -- where the two ways meet
   nearer : (c : lts.Joined2 (cs t) (walk-at t) walk.Post) → Nearer (start (c .before .before .before .before) .args .s .now) (start (c .before .before .before .before) .args .a) (c .if2 .s) (c .if2 .to)
-  nearer c = ⊎-elim (λ w. outward (cc) (cc) (cc)) (λ w. inward (cc) (cc) (cc)) (c .if2 .came)
+  nearer c =
+      ⊎-elim
+      (λ w. outward (sym (tested (c .before)) ∙ w .0 .taken) (w .4 ∙ w .2 .ensures .0) (w .3))
+      (λ w. inward (sym (tested (c .before)) ∙ w .0 .left) (w .6) (w .5 ∙ w .2 .ensures))
+      (c .if2 .came)
 
   walk-focus-of-requires : lts.Need-focus-of-requires (cs t) (walk-at t) walk.Post
   walk-focus-of-requires c κs = omega (arith, sound-fit _ (c .before .before .pre .1 .0))
@@ -75,7 +79,7 @@ module _ (t : ℕ) where
   walk-leave-requires c κs =
       let b = c .before .before .before .before .before in
       let (ok, made) = start b .pre .1 in
-      in-turns _ ok _ made (apart b) (inside (c .before))
+      in-turns _ ok _ made (apart b) (sym (tested (c .before .before)) ∙ c .before .if2 .left)
 
   walk-walk-requires : lts.Need-walk-requires (cs t) (walk-at t) walk.Post
   walk-walk-requires c κs =

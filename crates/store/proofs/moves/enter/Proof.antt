@@ -1,6 +1,10 @@
 -- `enter` meets its contract: the chain of its calls is `enterB`.
+use mathlib.Core.Path.{ap, _∙_}
+use mathlib.Core.List.{List}
+use Prim.Native.Nat.{ℕ, _+_}
 use borrow.Author.Needs.{needs}
-use Rattle.layout.specs.Writes.{moveB}
+use Rattle.layout.specs.Records.{withFocus}
+use Rattle.layout.specs.Writes.{turnB, moveB}
 use Rattle.store.proofs.moves.enter.Statement.{statement}
 use Rattle.store.proofs.moves.enter.Tie as tie
 
@@ -21,7 +25,12 @@ same-length c = search needs
 
 returns : tie.Need-returns
 unfolding moveB
-returns c = cc
+returns c =
+    let turn = c .before .before .before .before .before .before in
+    let st = turn .before .before .before .before .before in
+    let s = st .args .s .now in
+    c .before .before .set-focus .ensures
+    ∙ ap (λ (b : List ℕ). withFocus b (st .args .n)) (turn .turn .ensures ∙ ap (λ (k : ℕ). turnB s (st .args .n) (k + 1)) (turn .before .before .kind-of .ensures))
 
 pub enter-spec : {M : Type 1} → statement M
 enter-spec =

@@ -1,6 +1,10 @@
 -- `exchange` meets its contract: the chain of its calls is `swapB`.
+use mathlib.Core.Path.{ap, _∙_}
+use mathlib.Core.List.{List}
+use Prim.Native.Nat.{ℕ}
 use native.Mathlib.Omega.{arith}
 use borrow.Author.Needs.{needs}
+use Rattle.layout.specs.Records.{cellOf, withCell, bareC, putC, nodeOf, withNode, swapN}
 use Rattle.layout.specs.Writes.{swapB}
 use Rattle.layout.specs.WalkLaws.{swapped-fits}
 use Rattle.store.proofs.moves.exchange.Statement.{statement}
@@ -30,7 +34,18 @@ same-length c = search needs
 
 returns : tie.Need-returns
 unfolding swapB
-returns c = cc
+returns c =
+    let swap = c .before .before .before .before .before .before in
+    let read = swap .before .before in
+    let var = read .before .before .before in
+    let st = var .before .before .before in
+    let s = st .args .s .now in
+    let n = st .args .n in
+    let x = var .var-of .ensures .0 in
+    let was = read .bare-of .ensures ∙ ap bareC (read .before .cell .ensures .0 ∙ ap (cellOf s) x) in
+    let t = swap .swap-at .ensures .1 ∙ ap (λ (d : List ℕ). withNode s n (swapN (nodeOf s n) (st .args .k) d)) was in
+    let d = swap .swap-at .ensures .0 in
+    c .before .before .set-cell .ensures ∙ (λ i. withCell (t i) (x i) (putC (cellOf (t i) (x i)) (d i)))
 
 pub exchange-spec : {M : Type 1} → statement M
 exchange-spec =

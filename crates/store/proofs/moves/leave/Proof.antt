@@ -1,9 +1,11 @@
 -- `leave` meets its contract: the chain of its calls is `leaveB`, since the turned node keeps its parent.
-use mathlib.Core.Path.{_≡_}
+use mathlib.Core.Path.{_≡_, ap, ap₂, _∙_}
+use Prim.Native.Nat.{ℕ}
 use native.Mathlib.Omega.{arith}
 use borrow.Author.Needs.{needs}
-use Rattle.layout.specs.Records.{focus, nodeOf, kindN}
-use Rattle.layout.specs.Writes.{moveB}
+use Rattle.layout.specs.Records.{focus, withFocus, nodeOf, kindN, parentN}
+use Rattle.layout.specs.Kinds.{leftKind}
+use Rattle.layout.specs.Writes.{turnB, moveB}
 use Rattle.layout.specs.WalkLaws.{Turned, turned}
 use Rattle.store.proofs.moves.leave.Statement.{statement}
 use Rattle.store.proofs.moves.leave.Tie as tie
@@ -22,8 +24,9 @@ kind-of-requires c κs = search needs
 
 sub-turn : tie.Need-sub-turn
 sub-turn c =
-    let s = c .before .before .before .before .before .before .args .s .now in
-    let e : c .before .kind-of .result ≡ kindN (nodeOf s (focus s)) = cc in omega arith
+    let first = c .before .before .before in
+    let s = first .before .before .before .args .s .now in
+    let e : c .before .kind-of .result ≡ kindN (nodeOf s (focus s)) = c .before .kind-of .ensures ∙ ap (λ (n : ℕ). kindN (nodeOf s n)) (first .focus-of .ensures .0) in omega arith
 
 turn-requires : tie.Need-turn-requires
 turn-requires c κs =
@@ -41,7 +44,17 @@ same-length c = search needs
 
 returns : tie.Need-returns
 unfolding moveB
-returns c = let t = after-turn (c .before .before .before .before .before .before .before .before) in cc
+returns c =
+    let turn = c .before .before .before .before .before .before .before .before in
+    let kind = turn .before .before in
+    let first = kind .before .before in
+    let s = first .before .before .before .args .s .now in
+    let f = first .focus-of .ensures .0 in
+    let t = after-turn turn in
+    c .before .before .set-focus .ensures
+    ∙ ap₂ withFocus
+    (turn .turn .ensures ∙ ap₂ (turnB s) f (ap leftKind (kind .kind-of .ensures ∙ ap (λ (n : ℕ). kindN (nodeOf s n)) f)))
+    (c .before .before .before .before .parent-of .ensures .0 ∙ t .parent ∙ ap (λ (n : ℕ). parentN (nodeOf s n)) f)
 
 pub leave-spec : {M : Type 1} → statement M
 leave-spec =

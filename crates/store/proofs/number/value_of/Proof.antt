@@ -1,4 +1,7 @@
 -- The four bytes are summed as the definition sums them; the machine keeps the value as bits (`toZ-ofZ`).
+use mathlib.Core.Path.{_∙_}
+use Prim.Native.Nat.{_+_, _*_}
+use mir.Val.{toZ}
 use mir.ValLaws.{toZ-ofZ}
 use mir.Syntax.{w32}
 use borrow.Author.Needs.{needs}
@@ -53,7 +56,16 @@ of-bits-requires c κs = search needs
 
 returns : tie.Need-returns
 unfolding bitsC
-returns c = cc (toZ-ofZ w32 (c .of-bits .result) (record { sfits = c .of-bits .ok }))
+returns c =
+    let fourth = c .before in
+    let third = fourth .before in
+    let second = third .before in
+    let b₁ = second .before .wide32 .ensures .0 in
+    let b₂ = second .wide322 .ensures .0 in
+    let b₃ = third .wide323 .ensures .0 in
+    let b₄ = fourth .wide324 .ensures .0 in
+    toZ-ofZ w32 (c .of-bits .result) (record { sfits = c .of-bits .ok }) ∙ c .of-bits .ensures
+    ∙ (λ i. toZ w32 (b₁ i + 256 * b₂ i + 65536 * b₃ i + 16777216 * b₄ i))
 
 pub value-of-spec : {M : Type 1} → statement M
 value-of-spec =

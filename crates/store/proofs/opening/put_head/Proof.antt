@@ -3,7 +3,7 @@ use Rattle.layout.specs.Limits.{header}
 use Rattle.layout.specs.Bytes.{put16, by-tab}
 use Rattle.layout.specs.Writes.{headB}
 use Prim.Native.Nat.{ℕ}
-use mathlib.Core.Path.{_≡_, refl}
+use mathlib.Core.Path.{_≡_, refl, ap, _∙_}
 use mathlib.Core.List.{List}
 use lib.ListN.{length}
 use borrow.Author.Needs.{needs}
@@ -36,8 +36,9 @@ returns c =
     let second = third .before .before .before .before in
     let first = second .before .before .before .before in
     let start = first .before .before .before in
-    let all = written (start .args .v) (start .args .n) (start .args .p .now) (start .pre .0) in
-    cc (first .put16-at .ensures, second .put16-at2 .ensures, third .put16-at3 .ensures, fourth .put16-at4 .ensures)
+    let two = second .put16-at2 .ensures ∙ ap (λ (b : List ℕ). put16 b 2 (start .args .n)) (first .put16-at .ensures) in
+    let three = third .put16-at3 .ensures ∙ ap (λ (b : List ℕ). put16 b 4 1) two in
+    fourth .put16-at4 .ensures ∙ ap (λ (b : List ℕ). put16 b 6 0) three ∙ written (start .args .v) (start .args .n) (start .args .p .now) (start .pre .0)
 
 pub put-head-spec : {M : Type 1} → statement M
 put-head-spec =

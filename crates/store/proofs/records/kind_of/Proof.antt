@@ -1,3 +1,4 @@
+use mathlib.Core.Path.{ap}
 use borrow.Author.Needs.{needs}
 use Rattle.layout.specs.Records.{kindN}
 use Rattle.store.proofs.records.kind_of.Statement.{statement}
@@ -11,7 +12,7 @@ shared-slice-read-result c = search needs
 
 returns : tie.Need-returns
 unfolding kindN
-returns c = cc
+returns c = ap kindN (c .before .node .ensures .0)
 
 pub kind-of-spec : {M : Type 1} → statement M
 kind-of-spec = tie.close (tie.spec node-requires shared-slice-read-result returns)

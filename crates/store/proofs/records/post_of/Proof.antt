@@ -1,4 +1,4 @@
-use native.Mathlib.Omega.{arith}
+use mathlib.Core.Path.{ap, _∙_}
 use borrow.Author.Needs.{needs}
 use Rattle.layout.specs.Records.{postN}
 use Rattle.store.proofs.records.post_of.Statement.{statement}
@@ -12,7 +12,7 @@ u16-at-requires c κs = search needs
 
 returns : tie.Need-returns
 unfolding postN
-returns c = (cc, omega arith)
+returns c = (c .u16-at .ensures .0 ∙ ap postN (c .before .node .ensures .0), c .u16-at .ensures .1)
 
 pub post-of-spec : {M : Type 1} → statement M
 post-of-spec = tie.close (tie.spec node-requires u16-at-requires returns)

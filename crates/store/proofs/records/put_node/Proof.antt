@@ -1,6 +1,6 @@
 -- Each store is one of the definitions'; over twelve bytes written out, what they leave computes to the node.
 use mathlib.Core.List.{List}
-use mathlib.Core.Path.{_≡_, refl}
+use mathlib.Core.Path.{_≡_, refl, ap, _∙_}
 use Prim.Native.Nat.{ℕ}
 use lib.ListN.{length}
 use borrow.Author.Needs.{needs}
@@ -37,8 +37,9 @@ returns c =
     let swapped = first .before .before .before .before in
     let start = swapped .before .before .before in
     let args = start .args in
-    let all = written (args .k) (args .up) (args .a) (args .b) (args .c) (args .p .now) (start .pre .0) in
-    cc (swapped .swap-node .ensures .1, first .put16-at .ensures, second .put16-at2 .ensures, third .put16-at3 .ensures)
+    let one = first .put16-at .ensures ∙ ap (λ (b : List ℕ). put16 b 2 (args .up)) (swapped .swap-node .ensures .1) in
+    let two = second .put16-at2 .ensures ∙ ap (λ (b : List ℕ). put16 b 4 (args .a)) one in
+    third .put16-at3 .ensures ∙ ap (λ (b : List ℕ). put16 b 6 (args .b)) two ∙ written (args .k) (args .up) (args .a) (args .b) (args .c) (args .p .now) (start .pre .0)
 
 pub put-node-spec : {M : Type 1} → statement M
 put-node-spec =

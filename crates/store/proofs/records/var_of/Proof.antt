@@ -1,4 +1,4 @@
-use native.Mathlib.Omega.{arith}
+use mathlib.Core.Path.{ap, _∙_}
 use borrow.Author.Needs.{needs}
 use Rattle.layout.specs.Records.{varN}
 use Rattle.store.proofs.records.var_of.Statement.{statement}
@@ -12,7 +12,7 @@ u16-at-requires c κs = search needs
 
 returns : tie.Need-returns
 unfolding varN
-returns c = (cc, omega arith)
+returns c = (c .u16-at .ensures .0 ∙ ap varN (c .before .node .ensures .0), c .u16-at .ensures .1)
 
 pub var-of-spec : {M : Type 1} → statement M
 var-of-spec = tie.close (tie.spec node-requires u16-at-requires returns)

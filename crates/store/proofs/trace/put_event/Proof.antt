@@ -1,8 +1,11 @@
 -- `put_event` meets its contract: over five bytes written out, what the stores leave computes to the event.
-use mathlib.Core.Path.{_∙_}
+use mathlib.Core.Path.{ap, _∙_}
+use mathlib.Core.List.{List}
+use Prim.Native.Nat.{ℕ}
 use native.Mathlib.Omega.{arith}
 use lib.ListN.{length-set}
 use borrow.Author.Needs.{needs}
+use Rattle.layout.specs.Bytes.{put16}
 use Rattle.layout.specs.EventLaws.{event-put}
 use Rattle.store.proofs.trace.put_event.Statement.{statement}
 use Rattle.store.proofs.trace.put_event.Tie as tie
@@ -24,8 +27,8 @@ returns c =
     let second = c .before .before in
     let first = second .before .before .before .before in
     let start = first .before .before .before in
-    let all = event-put (start .args .d) (start .args .thunk) (start .args .place) (start .args .p .now) (start .pre .0) in
-    cc
+    second .put16-at2 .ensures ∙ ap (λ (b : List ℕ). put16 b 3 (start .args .place)) (first .put16-at .ensures)
+    ∙ event-put (start .args .d) (start .args .thunk) (start .args .place) (start .args .p .now) (start .pre .0)
 
 pub put-event-spec : {M : Type 1} → statement M
 put-event-spec =

@@ -1,6 +1,6 @@
 -- `rise_out` meets its contract. The loop's invariant: what lies behind the climb and what remains are together what the
 -- target has. The measure is the distance that remains.
-use mathlib.Core.Path.{_≡_}
+use mathlib.Core.Path.{_≡_, sym, ap, _∙_}
 use mathlib.Core.Bool.{true, false}
 use native.Mathlib.Omega.{arith}
 use borrow.Author.Needs.{needs}
@@ -19,11 +19,15 @@ Inv-loop s a at₀ moves₀ events₀ at moves events = Climbing s a at moves ev
 abbrev μ-loop : tie.MeasureT-loop
 μ-loop s a at₀ moves₀ events₀ at moves events = movesTo s at
 
+-- what is tested is the mode of the node that the climb has reached
+tested : (c : tie.After-is-out Inv-loop μ-loop) → c .is-out .result ≡ isOut (kindN (nodeOf (c .before .before .before .before .args .s .now) (c .before .before .loop .at)))
+tested c = c .is-out .ensures ∙ ap isOut (c .before .kind-of .ensures)
+
 out : (c : tie.Then1 Inv-loop μ-loop) → isOut (kindN (nodeOf (c .before .before .before .before .before .args .s .now) (c .before .before .before .loop .at))) ≡ true
-out c = cc
+out c = sym (tested (c .before)) ∙ c .if1 .taken
 
 inside : (c : tie.Else1 Inv-loop μ-loop) → isOut (kindN (nodeOf (c .before .before .before .before .before .args .s .now) (c .before .before .before .loop .at))) ≡ false
-inside c = cc
+inside c = sym (tested (c .before)) ∙ c .if1 .left
 
 loop-holds : tie.Need-loop-holds Inv-loop μ-loop
 loop-holds c = let (ok, made) = c .before .pre in climbing-start _ ok _ made
