@@ -148,9 +148,22 @@ module _ (s : List ℕ) (fit : Fit s) where
       let q : part s at nodeSize ≡ replicate nodeSize 0 = sym (node-in s n m) ∙ b n (omega arith) m in
       ap (λ (x : ℕ). getD s x 0) (sym k) ∙ sym (part-at s at nodeSize j (omega arith)) ∙ list-zeros _ nodeSize q j (omega arith) (omega arith)
 
--- ---- how many are in
-pub count-more : (b : ℕ → Bool) (n : ℕ) → count b (n + 1) ≡ num (b n) + count b n
+-- ---- how many are in: of the nodes 1 to n-1, k, counted one by one; the top is left out
+pub record Counted (b : ℕ → Bool) (n k : ℕ) : Type 0 where
+  pub few : k < n
+  pub all : count b n ≡ num (b 0) + k
+
+count-more : (b : ℕ → Bool) (n : ℕ) → count b (n + 1) ≡ num (b n) + count b n
 count-more b n = rw add-one
+
+pub counted-none : (b : ℕ → Bool) → Counted b 1 0
+counted-none b = record { few = omega arith; all = refl }
+
+pub counted-in : (b : ℕ → Bool) (n k : ℕ) → Counted b n k → b n ≡ true → Counted b (n + 1) (k + 1)
+counted-in b n k c e = record { few = omega (arith, c .few); all = omega (arith, count-more b n, c .all, ap num e) }
+
+pub counted-out : (b : ℕ → Bool) (n k : ℕ) → Counted b n k → b n ≡ false → Counted b (n + 1) k
+counted-out b n k c e = record { few = omega (arith, c .few); all = omega (arith, count-more b n, c .all, ap num e) }
 
 count-same : (b c : ℕ → Bool) (n : ℕ) → ((k : ℕ) → k < n → b k ≡ c k) → count b n ≡ count c n
 count-same b c zero h = refl
@@ -159,6 +172,13 @@ count-same b c (suc n) h = omega (arith, ap num (h n (le-refl _)), count-same b 
 -- ---- the climb: from the focus n nodes were passed, all of them in, and the path of a is left
 abbrev pub modeF : Fields → ℕ → Bool
 modeF f n = isIn (kindN (f .node n))
+
+-- the top is not in
+pub counted-all : (f : Fields) (n k : ℕ) → f .node 0 ≡ topNode → Counted (modeF f) n k → k ≡ count (modeF f) n
+unfolding topNode kindN isIn
+counted-all f n k top c =
+    let out : num (modeF f 0) ≡ 0 = ap (λ (p : List ℕ). num (isIn (kindN p))) top in
+    omega (arith, c .all)
 
 abbrev route : Fields → ℕ → List ℕ
 route f a = path (treeF (f .node)) a

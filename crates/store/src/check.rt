@@ -8,7 +8,8 @@ ghost use Rattle.rules.specs.Modes.{count};
 ghost use Rattle.layout.specs.Limits.{bareSize, nodeSize};
 ghost use Rattle.layout.specs.Records.{vars, made, ProperCell, bareC, topC, kindN, varN, postN, storedN, blankCell, topNode};
 ghost use Rattle.layout.specs.Kinds.{isIn};
-ghost use Rattle.layout.specs.Fields.{Fit, fieldsOf, nodes};
+ghost use Rattle.layout.specs.CheckLaws.{modeF, Counted};
+ghost use Rattle.layout.specs.Fields.{Fit, fieldsOf};
 ghost use Rattle.layout.specs.Sound.{Says, NodeOk, HeadOk, Headed, CellsOk, NodesOk, BlanksOk, Shape, Ins, Sound};
 use crate::number::u16_at;
 use crate::records::bare_of;
@@ -161,20 +162,43 @@ fn node_ok(p: &[u8], n: usize, v: usize) -> bool
     }
 }
 
-fn nodes_ok(s: &[u8]) -> bool
+// In, of a binding or a wind.
+pub(crate) fn is_in(k: u8) -> bool
+    ensures { λ r. ⌜ r ≡ isIn k ⌝ }
+{
+    match k {
+        3 | 5 => true,
+        _ => false,
+    }
+}
+
+// What a pass over the nodes finds: whether all is as it should be, and then how many are in.
+struct Pass {
+    ok: bool,
+    ins: usize,
+}
+
+// Nodes 1 to made-1, each looked at once.
+fn nodes_ok(s: &[u8]) -> Pass
     requires { ⌜ Headed (now s) ⌝ }
-    ensures { λ r. ⌜ Says r (NodesOk (fieldsOf (now (s .entry)))) ⌝ }
+    ensures { λ r. ⌜ Says (r .ok) (NodesOk (fieldsOf (now (s .entry)))) ⌝ }
+    ensures { λ r. ⌜ (r .ok ≡ true → Counted (modeF (fieldsOf (now (s .entry)))) (made (now (s .entry))) (r .ins)) ⌝ }
 {
     let v = vars_of(s);
     let m = made_of(s);
+    let mut ins = 0;
     let mut n = 1;
     while n < m {
-        if !node_ok(node(s, n), n, v) {
-            return false;
+        let p = node(s, n);
+        if !node_ok(p, n, v) {
+            return Pass { ok: false, ins: 0 };
+        }
+        if is_in(p[0]) {
+            ins += 1;
         }
         n += 1;
     }
-    true
+    Pass { ok: true, ins }
 }
 
 // Every node from made on is all zero.
@@ -187,56 +211,30 @@ fn blanks_ok(s: &[u8]) -> bool
     zeros(&s[a..e])
 }
 
-fn shape_ok(s: &[u8]) -> bool
+// Every clause but the one on modes.
+fn shape_ok(s: &[u8]) -> Pass
     requires { ⌜ Headed (now s) ⌝ }
-    ensures { λ r. ⌜ Says r (Shape (fieldsOf (now (s .entry)))) ⌝ }
+    ensures { λ r. ⌜ Says (r .ok) (Shape (fieldsOf (now (s .entry)))) ⌝ }
+    ensures { λ r. ⌜ (r .ok ≡ true → r .ins ≡ count (modeF (fieldsOf (now (s .entry)))) (made (now (s .entry)))) ⌝ }
 {
     if !cells_ok(s) {
-        return false;
+        return Pass { ok: false, ins: 0 };
     }
     if !top_ok(node(s, 0)) {
-        return false;
+        return Pass { ok: false, ins: 0 };
     }
-    if !nodes_ok(s) {
-        return false;
+    if !blanks_ok(s) {
+        return Pass { ok: false, ins: 0 };
     }
-    blanks_ok(s)
-}
-
-// In, of a binding or a wind.
-pub(crate) fn is_in(k: u8) -> bool
-    ensures { λ r. ⌜ r ≡ isIn k ⌝ }
-{
-    match k {
-        3 | 5 => true,
-        _ => false,
-    }
-}
-
-// How many nodes are in.
-fn count_in(s: &[u8]) -> usize
-    requires { ⌜ Headed (now s) ⌝ }
-    ensures { λ r. ⌜ r ≡ count (λ n. isIn (kindN (nodes (now (s .entry)) n))) (made (now (s .entry))) ⌝ }
-{
-    let m = made_of(s);
-    let mut c = 0;
-    let mut n = 0;
-    while n < m {
-        if is_in(kind_of(s, n)) {
-            c += 1;
-        }
-        n += 1;
-    }
-    c
+    nodes_ok(s)
 }
 
 // From the focus up every node is in, and there are as many as are in at all: so exactly the path is in.
-fn ins_ok(s: &[u8]) -> bool
+fn ins_ok(s: &[u8], all: usize) -> bool
     requires { ⌜ Headed (now s) ⌝ }
-    requires { ⌜ Shape (fieldsOf (now s)) ⌝ }
+    requires { ⌜ Shape (fieldsOf (now s)) × (all ≡ count (modeF (fieldsOf (now s))) (made (now s))) ⌝ }
     ensures { λ r. ⌜ Says r (Ins (fieldsOf (now (s .entry)))) ⌝ }
 {
-    let all = count_in(s);
     let mut f = focus_of(s);
     let mut n = 0;
     while f > 0 {
@@ -255,8 +253,9 @@ pub(crate) fn sound(s: &[u8]) -> bool
     if !head_ok(s) {
         return false;
     }
-    if !shape_ok(s) {
+    let shape = shape_ok(s);
+    if !shape.ok {
         return false;
     }
-    ins_ok(s)
+    ins_ok(s, shape.ins)
 }

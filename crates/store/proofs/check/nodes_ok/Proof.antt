@@ -1,38 +1,54 @@
--- Of every node passed it is known that it is as it should be; the first that is not refutes the clause.
-use mathlib.Core.Path.{sym, subst, _∙_}
+-- Of every node passed it is known that it is as it should be, and how many of them are in; the first that is not as it should be
+-- refutes the clause.
+use mathlib.Core.Path.{_≡_, refl, sym, ap, subst, _∙_}
+use mathlib.Core.Logic.{⊎-elim}
 use mathlib.Core.List.{List}
-use Prim.Native.Nat.{ℕ, _-_, _<_, _≤_}
+use Prim.Native.Nat.{ℕ, _+_, _-_, _<_, _≤_}
 use native.Mathlib.Omega.{arith}
 use borrow.Author.Needs.{needs}
+use Rattle.rules.specs.Basic.{clash}
 use Rattle.layout.specs.Sound.{Says, NodeOk}
-use Rattle.layout.specs.Records.{vars}
+use Rattle.layout.specs.Records.{vars, made, kindN}
+use Rattle.layout.specs.Kinds.{isIn}
 use Rattle.layout.specs.Fields.{fieldsOf, nodes}
 use Rattle.layout.specs.SoundLaws.{headed-fit}
 use Rattle.layout.specs.Laws.{node-in}
-use Rattle.layout.specs.CheckLaws.{held, refuted, below-more}
+use Rattle.layout.specs.CheckLaws.{held, refuted, below-more, modeF, Counted, counted-none, counted-in, counted-out}
 use Rattle.store.proofs.check.nodes_ok.Statement.{statement}
 use Rattle.store.proofs.check.nodes_ok.Tie as tie
 
+abbrev Passed : List ℕ → ℕ → Type 0
+Passed s n = (k : ℕ) → 1 ≤ k → k < n → NodeOk (vars s) k (nodes s k)
+
 abbrev Inv-loop : tie.InvT-loop
-Inv-loop s v m n₀ n = (n ≤ m) × ((1 ≤ n) × ((k : ℕ) → 1 ≤ k → k < n → NodeOk (vars s) k (nodes s k)))
+Inv-loop s v m ins₀ n₀ ins n = (n ≤ m) × ((1 ≤ n) × (Passed s n × Counted (modeF (fieldsOf s)) n ins))
 
 abbrev μ-loop : tie.MeasureT-loop
-μ-loop s v m n₀ n = m - n
+μ-loop s v m ins₀ n₀ ins n = m - n
 
--- what is tested is the node n
+-- what is looked at is the node n, and what is counted its mode
+looked : (c : tie.After-node Inv-loop μ-loop) →
+    let loop = c .before .before in
+    c .node .result .now ≡ nodes (loop .before .before .before .before .args .s .now) (loop .loop .n)
+unfolding fieldsOf
+looked c = c .node .ensures .0 ∙ sym (node-in _ _ (omega arith))
+
 tested : (c : tie.After-node-ok Inv-loop μ-loop) →
     let loop = c .before .before .before in
     let s = loop .before .before .before .before .args .s .now in
     Says (c .node-ok .result) (NodeOk (vars s) (loop .loop .n) (nodes s (loop .loop .n)))
-unfolding fieldsOf
 tested c =
     let loop = c .before .before .before in
     let s = loop .before .before .before .before .args .s .now in
     let n = loop .loop .n in
-    let v = loop .before .before .vars-of in
-    let p = c .before .node .ensures .0 ∙ sym (node-in s n (omega arith)) in
-    subst (λ (q : List ℕ). Says (c .node-ok .result) (NodeOk (vars s) n q)) p
-    (subst (λ (x : ℕ). Says (c .node-ok .result) (NodeOk x n (c .before .node .result .now))) (v .ensures .0) (c .node-ok .ensures))
+    subst (λ (q : List ℕ). Says (c .node-ok .result) (NodeOk (vars s) n q)) (looked (c .before))
+    (subst (λ (x : ℕ). Says (c .node-ok .result) (NodeOk x n (c .before .node .result .now))) (loop .before .before .vars-of .ensures .0) (c .node-ok .ensures))
+
+mode : (c : tie.After-is-in Inv-loop μ-loop) →
+    let loop = c .before .before .before .before .before .before in
+    c .is-in .result ≡ isIn (kindN (nodes (loop .before .before .before .before .args .s .now) (loop .loop .n)))
+unfolding kindN
+mode c = c .is-in .ensures ∙ ap (λ (p : List ℕ). isIn (kindN p)) (looked (c .before .before .before .before))
 
 vars-of-requires : tie.Need-vars-of-requires Inv-loop μ-loop
 vars-of-requires c κs = search needs
@@ -42,7 +58,7 @@ made-of-requires c κs = search needs
 
 loop-holds : tie.Need-loop-holds Inv-loop μ-loop
 unfolding fieldsOf
-loop-holds c = (omega arith, (omega arith, λ k h l. absurd (omega arith)))
+loop-holds c = (omega arith, (omega arith, (λ k h l. absurd (omega arith), counted-none _)))
 
 node-requires : tie.Need-node-requires Inv-loop μ-loop
 unfolding fieldsOf
@@ -53,7 +69,16 @@ node-ok-requires c κs = search needs
 
 returns : tie.Need-returns Inv-loop μ-loop
 unfolding fieldsOf
-returns c = λ ok. refuted (c .before .node-ok .result) (c .if1 .taken) (tested (c .before)) (ok (c .before .before .before .before .loop .n) (omega arith) (omega arith))
+returns c = (λ ok. refuted (c .before .node-ok .result) (c .if1 .taken) (tested (c .before)) (ok (c .before .before .before .before .loop .n) (omega arith) (omega arith)), λ e. clash e refl)
+
+shared-slice-read-is-in : tie.Need-shared-slice-read-is-in Inv-loop μ-loop
+shared-slice-read-is-in c = search needs
+
+is-in-requires : tie.Need-is-in-requires Inv-loop μ-loop
+is-in-requires c κs = search needs
+
+add-ins : tie.Need-add-ins Inv-loop μ-loop
+add-ins c = search needs
 
 add-n : tie.Need-add-n Inv-loop μ-loop
 add-n c = search needs
@@ -62,14 +87,27 @@ loop-less : tie.Need-loop-less Inv-loop μ-loop
 loop-less c = search needs
 
 loop-again : tie.Need-loop-again Inv-loop μ-loop
+unfolding fieldsOf
 loop-again c =
-    let loop = c .before .before .before .before in
+    let node = c .before .before .before .before in
+    let loop = node .before .before .before in
     let s = loop .before .before .before .before .args .s .now in
-    (omega arith, (omega arith, λ k l h. below-more (λ (j : ℕ). 1 ≤ j → NodeOk (vars s) j (nodes s j)) (loop .loop .n) (λ j i o. loop .loop .inv .1 .1 j o i) (λ _. held (c .before .node-ok .result) (c .if1 .left) (tested (c .before))) k h l))
+    let n = loop .loop .n in
+    let b = modeF (fieldsOf s) in
+    let inv = loop .loop .inv .1 .1 in
+    let more : Passed s (n + 1) = λ k l h. below-more (λ (j : ℕ). 1 ≤ j → NodeOk (vars s) j (nodes s j)) n (λ j i o. inv .0 j o i) (λ _. held (node .node-ok .result) (c .before .before .before .if1 .left) (tested node)) k h l in
+    ⊎-elim
+    (λ w. (omega arith, (omega arith, (more, subst (Counted b (n + 1)) (sym (w .1)) (counted-in b n (loop .loop .ins) (inv .1) (sym (mode (c .before)) ∙ w .0 .taken))))))
+    (λ w. (omega arith, (omega arith, (more, subst (Counted b (n + 1)) (sym (w .1)) (counted-out b n (loop .loop .ins) (inv .1) (sym (mode (c .before)) ∙ w .0 .left))))))
+    (c .if2 .came)
 
 returns-2 : tie.Need-returns-2 Inv-loop μ-loop
 unfolding fieldsOf
-returns-2 c = λ k l h. c .before .loop .inv .1 .1 k l (omega arith)
+returns-2 c =
+    let s = c .before .before .before .before .before .args .s .now in
+    let inv = c .before .loop .inv .1 .1 in
+    let e : c .before .loop .n ≡ made s = omega arith in
+    (λ k l h. inv .0 k l (omega arith), λ _. subst (λ (n : ℕ). Counted (modeF (fieldsOf s)) n (c .before .loop .ins)) e (inv .1))
 
 pub nodes-ok-spec : {M : Type 1} → statement M
 nodes-ok-spec =
@@ -83,6 +121,9 @@ nodes-ok-spec =
     node-requires
     node-ok-requires
     returns
+    shared-slice-read-is-in
+    is-in-requires
+    add-ins
     add-n
     loop-less
     loop-again

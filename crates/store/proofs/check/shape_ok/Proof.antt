@@ -1,12 +1,14 @@
 -- Each test that fails refutes its clause; where the first three hold, the last one decides.
-use mathlib.Core.Path.{sym, _∙_}
+use mathlib.Core.Path.{_≡_, refl, sym, _∙_}
 use native.Mathlib.Omega.{arith}
 use borrow.Author.Needs.{needs}
-use Rattle.layout.specs.Sound.{Shape, BlanksOk}
+use Rattle.rules.specs.Basic.{clash}
+use Rattle.layout.specs.Sound.{Shape, NodesOk}
+use Rattle.layout.specs.Records.{topNode}
 use Rattle.layout.specs.Fields.{fieldsOf}
 use Rattle.layout.specs.SoundLaws.{headed-fit}
 use Rattle.layout.specs.Laws.{node-in}
-use Rattle.layout.specs.CheckLaws.{held, refuted, says-map}
+use Rattle.layout.specs.CheckLaws.{held, refuted, says-map, counted-all}
 use Rattle.store.proofs.check.shape_ok.Statement.{statement}
 use Rattle.store.proofs.check.shape_ok.Tie as tie
 
@@ -14,7 +16,7 @@ cells-ok-requires : tie.Need-cells-ok-requires
 cells-ok-requires c κs = search needs
 
 returns : tie.Need-returns
-returns c = λ ok. refuted (c .before .cells-ok .result) (c .if1 .taken) (c .before .cells-ok .ensures) (ok .cells)
+returns c = (λ ok. refuted (c .before .cells-ok .result) (c .if1 .taken) (c .before .cells-ok .ensures) (ok .cells), λ e. clash e refl)
 
 node-requires : tie.Need-node-requires
 unfolding fieldsOf
@@ -27,34 +29,35 @@ returns-2 : tie.Need-returns-2
 unfolding fieldsOf
 returns-2 c =
     let s = c .before .before .before .before .before .before .args .s .now in
-    λ ok. refuted (c .before .top-ok .result) (c .if2 .taken) (c .before .top-ok .ensures) (c .before .before .node .ensures .0 ∙ sym (node-in s 0 (omega arith)) ∙ ok .top)
-
-nodes-ok-requires : tie.Need-nodes-ok-requires
-nodes-ok-requires c κs = search needs
-
-returns-3 : tie.Need-returns-3
-returns-3 c = λ ok. refuted (c .before .nodes-ok .result) (c .if3 .taken) (c .before .nodes-ok .ensures) (ok .nodes)
+    (λ ok. refuted (c .before .top-ok .result) (c .if2 .taken) (c .before .top-ok .ensures) (c .before .before .node .ensures .0 ∙ sym (node-in s 0 (omega arith)) ∙ ok .top), λ e. clash e refl)
 
 blanks-ok-requires : tie.Need-blanks-ok-requires
 blanks-ok-requires c κs = search needs
 
+returns-3 : tie.Need-returns-3
+returns-3 c = (λ ok. refuted (c .before .blanks-ok .result) (c .if3 .taken) (c .before .blanks-ok .ensures) (ok .blanks), λ e. clash e refl)
+
+nodes-ok-requires : tie.Need-nodes-ok-requires
+nodes-ok-requires c κs = search needs
+
 returns-4 : tie.Need-returns-4
 unfolding fieldsOf
 returns-4 c =
-    let nodes = c .before .before in
-    let top = nodes .before .before in
+    let blanks = c .before .before in
+    let top = blanks .before .before in
     let cells = top .before .before .before in
     let start = cells .before .before in
     let s = start .args .s .now in
-    let all : BlanksOk (fieldsOf s) → Shape (fieldsOf s) = λ b. record {
+    let is-top : fieldsOf s .node 0 ≡ topNode = node-in s 0 (omega arith) ∙ sym (top .before .node .ensures .0) ∙ held (top .top-ok .result) (blanks .before .if2 .left) (top .top-ok .ensures) in
+    let all : NodesOk (fieldsOf s) → Shape (fieldsOf s) = λ n. record {
       head = start .pre .head;
       cells = held (cells .cells-ok .result) (top .before .before .if1 .left) (cells .cells-ok .ensures);
-      top = node-in s 0 (omega arith) ∙ sym (top .before .node .ensures .0) ∙ held (top .top-ok .result) (nodes .before .if2 .left) (top .top-ok .ensures);
-      nodes = held (nodes .nodes-ok .result) (c .before .if3 .left) (nodes .nodes-ok .ensures);
-      blanks = b;
+      top = is-top;
+      nodes = n;
+      blanks = held (blanks .blanks-ok .result) (c .before .if3 .left) (blanks .blanks-ok .ensures);
     } in
-    let last : Shape (fieldsOf s) → BlanksOk (fieldsOf s) = λ ok. ok .blanks in
-    says-map (c .blanks-ok .result) all last (c .blanks-ok .ensures)
+    let last : Shape (fieldsOf s) → NodesOk (fieldsOf s) = λ ok. ok .nodes in
+    (says-map (c .nodes-ok .result .ok) all last (c .nodes-ok .ensures .0), λ e. counted-all (fieldsOf s) _ _ is-top (c .nodes-ok .ensures .1 e))
 
 pub shape-ok-spec : {M : Type 1} → statement M
 shape-ok-spec =
@@ -65,7 +68,7 @@ shape-ok-spec =
     node-requires
     top-ok-requires
     returns-2
-    nodes-ok-requires
-    returns-3
     blanks-ok-requires
+    returns-3
+    nodes-ok-requires
     returns-4)

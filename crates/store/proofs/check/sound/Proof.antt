@@ -1,4 +1,5 @@
 -- Each test that fails refutes its clause; where the first two hold, the modes decide.
+use borrow.Author.Tests.{not-false}
 use borrow.Author.Needs.{needs}
 use Rattle.layout.specs.Sound.{Ins, Sound}
 use Rattle.layout.specs.Fields.{fieldsOf}
@@ -17,21 +18,26 @@ shape-ok-requires : tie.Need-shape-ok-requires
 shape-ok-requires c κs = held (c .before .head-ok .result) (c .if1 .left) (c .before .head-ok .ensures)
 
 returns-2 : tie.Need-returns-2
-returns-2 c = λ ok. refuted (c .before .shape-ok .result) (c .if2 .taken) (c .before .shape-ok .ensures) (ok .fields .shape)
+returns-2 c =
+    let shape = c .before .before in
+    λ ok. refuted (shape .shape-ok .result .ok) (c .if2 .taken) (shape .shape-ok .ensures .0) (ok .fields .shape)
 
 ins-ok-requires : tie.Need-ins-ok-requires
 ins-ok-requires c κs =
-    let head = c .before .before .before in
-    (held (head .head-ok .result) (c .before .before .if1 .left) (head .head-ok .ensures), held (c .before .shape-ok .result) (c .if2 .left) (c .before .shape-ok .ensures))
+    let shape = c .before .before in
+    let head = shape .before .before in (
+      held (head .head-ok .result) (shape .before .if1 .left) (head .head-ok .ensures),
+      (held (shape .shape-ok .result .ok) (c .if2 .left) (shape .shape-ok .ensures .0), shape .shape-ok .ensures .1 (not-false _ (c .if2 .left))),
+    )
 
 returns-3 : tie.Need-returns-3
 returns-3 c =
-    let shape = c .before .before in
+    let shape = c .before .before .before in
     let head = shape .before .before in
     let s = head .before .before .args .s .now in
     let all : Ins (fieldsOf s) → Sound s = λ i. record {
       long = held (head .head-ok .result) (shape .before .if1 .left) (head .head-ok .ensures) .long;
-      fields = record { shape = held (shape .shape-ok .result) (c .before .if2 .left) (shape .shape-ok .ensures); ins = i };
+      fields = record { shape = held (shape .shape-ok .result .ok) (c .before .if2 .left) (shape .shape-ok .ensures .0); ins = i };
     } in
     let last : Sound s → Ins (fieldsOf s) = λ ok. ok .fields .ins in
     says-map (c .ins-ok .result) all last (c .ins-ok .ensures)
