@@ -1,19 +1,33 @@
 -- Events put into the trace one after the other, forward and backward. Assumes nothing.
 use mathlib.Core.Path.{_≡_, refl, sym, ap, _∙_}
-use Prim.Native.Nat.{ℕ, _+_, _*_, _≤_}
+use Prim.Native.Nat.{ℕ, _+_, _*_, _/_, _%_, _≤_, _<_}
 use native.Mathlib.Omega.{arith}
 use mathlib.Core.List.{List, [], _∷_, _++_, append-assoc}
-use mathlib.Core.Bool.{true, false}
+use mathlib.Core.Bool.{Bool, true, false}
+use lib.Dec.{eqb}
 use lib.ListN.{length, set, length-append, take-append-drop}
 use Rattle.rules.specs.Moves.{Event}
 use Rattle.layout.specs.Limits.{eventSize}
-use Rattle.layout.specs.Bytes.{put16, by-tab, splice, splice-length, splice-next, splice-prev}
-use Rattle.layout.specs.Events.{eventB, eventsB, told}
+use Rattle.layout.specs.Bytes.{u16, put16, by-tab, splice, splice-length, splice-next, splice-prev}
+use Rattle.layout.specs.Events.{bit, eventB, eventIn, eventsB, told}
 use Rattle.layout.specs.Routes.{eventD, toldAt}
 
 event-length : (e : Event) → length (eventB e) ≡ eventSize
 unfolding eventB
 event-length e = refl
+
+-- an event's bytes are read back as that event
+pub event-back : (e : Event) → e .thunk < 65536 → e .place < 65536 → eventIn (eventB e) ≡ record { entering = e .entering; thunk = e .thunk; place = e .place }
+unfolding eventIn eventB u16
+event-back e h l =
+    let side : eqb (bit (e .entering)) 1 ≡ e .entering = go (e .entering) in
+    let thunk : e .thunk % 256 + 256 * (e .thunk / 256) ≡ e .thunk = omega arith in
+    let place : e .place % 256 + 256 * (e .place / 256) ≡ e .place = omega arith in
+    λ i. record { entering = side i; thunk = thunk i; place = place i }
+  where
+    go : (b : Bool) → eqb (bit b) 1 ≡ b
+    go true = refl
+    go false = refl
 
 events-length : (es : List Event) → length (eventsB es) ≡ eventSize * length es
 unfolding eventsB

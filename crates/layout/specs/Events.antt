@@ -3,9 +3,12 @@
 use mathlib.Core.Bool.{Bool, true, false}
 use Prim.Native.Nat.{ℕ, _*_, _/_, _%_}
 use mathlib.Core.List.{List, [], _∷_, _++_}
-use lib.ListN.{length, drop}
+use lib.Dec.{eqb}
+use lib.ListN.{length, drop, getD}
 use Rattle.rules.specs.Moves.{Event, route, trace}
+use Rattle.layout.specs.declared.Event as Read
 use Rattle.layout.specs.Limits.{eventSize}
+use Rattle.layout.specs.Bytes.{u16}
 use Rattle.layout.specs.Records.{focus}
 use Rattle.layout.specs.View.{view}
 
@@ -16,6 +19,10 @@ bit false = 0
 
 unfoldable pub eventB : Event → List ℕ
 eventB e = bit (e .entering) ∷ e .thunk % 256 ∷ e .thunk / 256 ∷ e .place % 256 ∷ e .place / 256 ∷ []
+
+-- the event in its bytes
+unfoldable pub eventIn : List ℕ → Read.Event
+eventIn p = record { entering = eqb (getD p 0 0) 1; thunk = u16 p 1; place = u16 p 3 }
 
 unfoldable pub eventsB : List Event → List ℕ
 eventsB [] = []

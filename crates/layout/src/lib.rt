@@ -1,10 +1,13 @@
 // The store's sizes and limits, written once: the code cites these constants, the definitions cite `limits`,
-// and `limits()` is proved to make them one. And the bytes of a value, which open's top cells need as the store does.
+// and `limits()` is proved to make them one. And what callers of the store need of its bytes: the cell of a value, for open's
+// top cells, and the event in the bytes of a trace.
 ghost use mathlib.Core.Path.{_≡_};
+ghost use Prim.Native.Nat.{_+_, _*_};
 ghost use mir.Syntax.{w32};
 ghost use mir.Val.{ofZ};
 ghost use Rattle.layout.specs.Limits.{limits};
 ghost use Rattle.layout.specs.Records.{valueC};
+ghost use Rattle.layout.specs.Events.{eventIn};
 
 // The store that the caller lends as bytes.
 pub struct Store {}
@@ -76,4 +79,28 @@ pub fn value_cell(v: i32) -> [u8; Store::BARE]
         (b / 65_536 % 256) as u8,
         (b / 16_777_216 % 256) as u8,
     ]
+}
+
+// A trace event: entering or leaving, its thunk, and its place.
+pub struct Event {
+    pub entering: bool,
+    pub thunk: u16,
+    pub place: u16,
+}
+
+fn number(low: u8, high: u8) -> u16
+    ensures { λ r. ⌜ r ≡ low + 256 * high ⌝ }
+{
+    low as u16 + 256 * high as u16
+}
+
+// The event in its bytes.
+pub fn event_in(p: [u8; Store::EVENT]) -> Event
+    ensures { λ r. ⌜ r ≡ eventIn p ⌝ }
+{
+    Event {
+        entering: p[0] == 1,
+        thunk: number(p[1], p[2]),
+        place: number(p[3], p[4]),
+    }
 }

@@ -62,21 +62,21 @@ pub(crate) fn put_report(report: Report, page: &mut [u8], used: usize, fd: i32) 
     put_line(&line[..n], page, used, fd)
 }
 
-// Two bytes as a number.
-fn number(low: u8, high: u8) -> u16 {
-    low as u16 + 256 * high as u16
-}
-
 // The line of the event at a place of the trace.
 fn put_one(trace: &[u8], at: usize, page: &mut [u8], used: usize, fd: i32) -> usize
     requires { ⌜ at + eventSize ≤ length (now trace) ⌝ }
     requires { ⌜ (length (now page) ≡ pageBytes) × (used ≤ pageBytes) ⌝ }
     ensures { λ r. ⌜ r ≤ pageBytes ⌝ }
 {
-    let thunk = number(trace[at + 1], trace[at + 2]);
-    let place = number(trace[at + 3], trace[at + 4]);
+    let event = layout::event_in([
+        trace[at],
+        trace[at + 1],
+        trace[at + 2],
+        trace[at + 3],
+        trace[at + 4],
+    ]);
     let mut line = [0u8; Print::LINE];
-    let n = put_event(trace[at] == 1, thunk, place as u32, &mut line);
+    let n = put_event(event.entering, event.thunk, event.place as u32, &mut line);
     put_line(&line[..n], page, used, fd)
 }
 

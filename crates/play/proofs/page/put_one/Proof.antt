@@ -4,38 +4,35 @@ use borrow.Author.Needs.{needs}
 use Rattle.play.proofs.page.put_one.Statement.{statement}
 use Rattle.play.proofs.page.put_one.Tie as tie
 
-add-number : tie.Need-add-number
-add-number c = search needs
+shared-slice-read-t10 : tie.Need-shared-slice-read-t10
+shared-slice-read-t10 c = search needs
 
-shared-slice-read-number : tie.Need-shared-slice-read-number
-shared-slice-read-number c = search needs
+add-t11 : tie.Need-add-t11
+add-t11 c = search needs
 
-add-number-2 : tie.Need-add-number-2
-add-number-2 c = search needs
+shared-slice-read-t13 : tie.Need-shared-slice-read-t13
+shared-slice-read-t13 c = search needs
 
-shared-slice-read-number-2 : tie.Need-shared-slice-read-number-2
-shared-slice-read-number-2 c = search needs
+add-t14 : tie.Need-add-t14
+add-t14 c = search needs
 
-number-requires : tie.Need-number-requires
-number-requires c κs = search needs
+shared-slice-read-t16 : tie.Need-shared-slice-read-t16
+shared-slice-read-t16 c = search needs
 
-add-number-3 : tie.Need-add-number-3
-add-number-3 c = search needs
+add-t17 : tie.Need-add-t17
+add-t17 c = search needs
 
-shared-slice-read-number-3 : tie.Need-shared-slice-read-number-3
-shared-slice-read-number-3 c = search needs
+shared-slice-read-t19 : tie.Need-shared-slice-read-t19
+shared-slice-read-t19 c = search needs
 
-add-number-4 : tie.Need-add-number-4
-add-number-4 c = search needs
+add-t20 : tie.Need-add-t20
+add-t20 c = search needs
 
-shared-slice-read-number-4 : tie.Need-shared-slice-read-number-4
-shared-slice-read-number-4 c = search needs
+shared-slice-read-t22 : tie.Need-shared-slice-read-t22
+shared-slice-read-t22 c = search needs
 
-number-requires-2 : tie.Need-number-requires-2
-number-requires-2 c κs = search needs
-
-shared-slice-read-put-event : tie.Need-shared-slice-read-put-event
-shared-slice-read-put-event c = search needs
+event-in-requires : tie.Need-event-in-requires
+event-in-requires c κs = search needs
 
 cast-put-event : tie.Need-cast-put-event
 cast-put-event c = search needs
@@ -62,17 +59,16 @@ pub put-one-spec : {M : Type 1} → statement M
 put-one-spec =
     tie.close
     (tie.spec
-    add-number
-    shared-slice-read-number
-    add-number-2
-    shared-slice-read-number-2
-    number-requires
-    add-number-3
-    shared-slice-read-number-3
-    add-number-4
-    shared-slice-read-number-4
-    number-requires-2
-    shared-slice-read-put-event
+    shared-slice-read-t10
+    add-t11
+    shared-slice-read-t13
+    add-t14
+    shared-slice-read-t16
+    add-t17
+    shared-slice-read-t19
+    add-t20
+    shared-slice-read-t22
+    event-in-requires
     cast-put-event
     put-event-requires
     array-share-prefix-line
