@@ -23,9 +23,9 @@
  *   and never cut off. p and q are 16-bit and every one is good: C converts a
  *   larger number before the call.
  *
- * Stack.  A walk calls itself once for each environment it enters or leaves.
- *   At the limits no call needs more than 100 KiB; docs/FIGURES.md gives the
- *   measured need of each call.
+ * Stack.  A switch calls itself once for each environment that it enters, and
+ *   leaves by a loop. At the limits no call needs more than 100 KiB;
+ *   docs/FIGURES.md gives the measured need of each call.
  *
  * Example: a direction bound around a place, left, and entered again.
  *
