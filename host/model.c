@@ -273,14 +273,8 @@ void model_write(const struct model *m, uint8_t *bytes)
 
 /* ---- A switch: the nodes on one path and not on the other ---- */
 
-/* Where a wind's thunks are to run. */
-static unsigned place_of_leaving(const struct model *m, unsigned wind)
-{
-    (void)m;
-    return wind;
-}
-
-static unsigned place_of_entering(const struct model *m, unsigned wind)
+/* Where a wind's thunks are to run: both where the wind was made. */
+static unsigned place_of_thunks(const struct model *m, unsigned wind)
 {
     return m->node[wind].parent;
 }
@@ -304,13 +298,13 @@ static unsigned route(const struct model *m, unsigned from, unsigned to,
     path_from(m, to, &reached);
     for (n = from; n != 0 && !reached.has[n]; n = m->node[n].parent, moves++)
         if (m->node[n].wind)
-            note(e, 0, m->node[n].postlude, place_of_leaving(m, n));
+            note(e, 0, m->node[n].postlude, place_of_thunks(m, n));
     for (n = to; n != 0 && !left.has[n]; n = m->node[n].parent, moves++)
         entered[entering++] = n;
     while (entering-- > 0) {
         n = entered[entering];
         if (m->node[n].wind)
-            note(e, 1, m->node[n].prelude, place_of_entering(m, n));
+            note(e, 1, m->node[n].prelude, place_of_thunks(m, n));
     }
     return moves;
 }

@@ -238,7 +238,7 @@ static void leave(struct walk *w)
         exchange(w->store, node);
         node[0] = BINDING_OUT;
     } else {
-        tell(w, KN_LEAVING, postlude_of(node), focus);
+        tell(w, KN_LEAVING, postlude_of(node), parent_of(node));
         node[0] = WIND_OUT;
     }
     put16(w->store + 6, parent_of(node));

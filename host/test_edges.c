@@ -138,8 +138,8 @@ static void case_g(void)
     check_answer(here(), done(2, 0, 0), "the focus is unmoved");
     lent_take(&trace, 2 * KN_EVENT_BYTES);
     check_answer(go(0), done(0, 2, 2), "room for two");
-    event_is(0, 0, 4, 2);
-    event_is(1, 0, 2, 1);
+    event_is(0, 0, 4, 1);
+    event_is(1, 0, 2, 0);
     lent_take(&trace, 2 * KN_EVENT_BYTES - 1);
     check_answer(go(2), refused(KN_TRACE_ROOM), "entering, room for one");
     check_answer(go(1), done(1, 1, 1), "entering one");
@@ -190,7 +190,7 @@ static void case_k(void)
     event_is(0, 1, 10, 1);
     check_answer(bind(0, 1), done(3, 0, 0), "op 3");
     check_answer(go(0), done(0, 3, 1), "op 4");
-    event_is(0, 0, 11, 2);
+    event_is(0, 0, 11, 1);
     check_answer(go(3), done(3, 3, 1), "op 5");
     event_is(0, 1, 10, 1);
     check_answer(look(0), done(1, 0, 0), "op 6");
@@ -241,7 +241,7 @@ static void shortest_way(void)
     go(1);
     wind(5, 6);
     check_answer(go(2), done(2, 2, 2), "between siblings");
-    event_is(0, 0, 6, 3);
+    event_is(0, 0, 6, 1);
     event_is(1, 1, 3, 1);
 }
 
@@ -258,6 +258,18 @@ static void room_before_moves(void)
     check(lent_same(&store) && lent_same(&trace), "no byte differs");
     check_answer(back(), done(1, 1, 0), "back needs none");
     check_answer(back(), refused(KN_TRACE_ROOM), "back needs one");
+}
+
+static void resumed_postlude(void)
+{
+    check_name("a postlude resumed at its place enters nothing");
+    opened(1, 4, KN_SIZE(1, 4));
+    lent_take(&trace, KN_EVENT_BYTES);
+    bind(0, 1);
+    wind(2, 3);
+    check_answer(back(), done(1, 1, 1), "the wind is left");
+    event_is(0, 0, 3, 1);
+    check_answer(go(1), done(1, 0, 0), "and not entered again");
 }
 
 /* ---- Open's other edges ---- */
@@ -315,6 +327,7 @@ void test_edges(void)
     set_changes_one_binding();
     shortest_way();
     room_before_moves();
+    resumed_postlude();
     top_cells();
     not_cut_off();
 }

@@ -99,9 +99,13 @@ typedef struct kn_answer {
    divided by KN_EVENT_BYTES, rounded down; bytes after the written events
    keep their contents. Running the thunks, in order, is up to you. */
 enum kn_event {
-    KN_LEAVING  = 0, /* thunk: the postlude; place: the wind itself        */
-    KN_ENTERING = 1  /* thunk: the prelude; place: the wind's parent       */
+    KN_LEAVING  = 0, /* thunk: the postlude                                */
+    KN_ENTERING = 1  /* thunk: the prelude                                 */
 };
+
+/* Both are told at the wind's parent: the wind has been left by then, or is
+   not yet entered. A thunk that keeps its place and is resumed there moves
+   nothing. */
 
 /* ---- Opening ------------------------------------------------------------ */
 

@@ -218,15 +218,10 @@ fn note(notes: &mut [u8], e: usize, way: usize, thunk: usize, place: usize) {
     spell16(notes, plus(at, 3), place);
 }
 
-// The place of leaving the wind n: the wind itself.
-fn leaving_place(n: usize) -> usize {
-    n
-}
-
-// Leaving n, told if it is a wind: the events so far.
+// Leaving n, told if it is a wind: the events so far. The place is the wind's parent.
 fn leave(m: &[usize; SPACE], n: usize, notes: &mut [u8], e: usize) -> usize {
     if of(m, KIND, n) == WIND {
-        note(notes, e, 0, of(m, POST, n), leaving_place(n));
+        note(notes, e, 0, of(m, POST, n), of(m, PARENT, n));
         return plus(e, 1);
     }
     e

@@ -65,7 +65,7 @@ module _ (s t s′ t′ : List ℕ) (n : Numbers) (ok : Sound s) where
   done-effect (Call.peek a x) (d, e, f) = ap meaning e
 
 -- ---- all of it
-told-none : (t : List ℕ) → told [] t ≡ t
+pub told-none : (t : List ℕ) → told [] t ≡ t
 unfolding told eventsB
 told-none t = refl
 

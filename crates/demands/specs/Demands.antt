@@ -3,7 +3,7 @@
 -- numbers of the answer; `Promised c` is the promise of the call c. That a call ends for all arguments and all memory lent is
 -- what its promise, which asks for nothing, is proved of. The statements come first; their proofs are below.
 -- From document 01. Assumes that lent memory holds bytes.
-use mathlib.Core.Path.{_≡_, sym, ap, _∙_}
+use mathlib.Core.Path.{_≡_, refl, sym, ap, _∙_}
 use mathlib.Core.Logic.{_⊎_, inl, inr, _≢_}
 use Prim.Native.Nat.{ℕ, _≤_, _<_}
 use native.Mathlib.Omega.{arith}
@@ -19,7 +19,8 @@ use Rattle.rules.specs.Meaning.{Means, home-means}
 use Rattle.rules.specs.Refusals.{setup, atTop, noValue, damaged}
 use Rattle.rules.specs.Act.{Call}
 use Rattle.rules.specs.Effects.{Effect}
-use Rattle.rules.specs.Demands.{Switched}
+use Rattle.rules.specs.Demands.{Switched, switched-determined}
+use Rattle.rules.specs.Places.{InPlace, moves-placed, resumes}
 use Rattle.layout.specs.Limits.{sizeOf}
 use Rattle.layout.specs.Records.{vars, room, focus}
 use Rattle.layout.specs.Fields.{fieldsOf}
@@ -27,16 +28,18 @@ use Rattle.layout.specs.View.{viewF, view}
 use Rattle.layout.specs.Sound.{Sound}
 use Rattle.layout.specs.Made.{IsMade}
 use Rattle.layout.specs.Becomes.{Kept}
-use Rattle.layout.specs.Events.{told}
+use Rattle.layout.specs.Events.{told, eventsTo}
 use Rattle.layout.specs.SoundLaws.{sound-view}
-use Rattle.layout.specs.Same.{Bytes}
+use Rattle.layout.specs.RouteLaws.{events-none}
+use Rattle.layout.specs.WalkLaws.{kept-self, focus-made}
+use Rattle.layout.specs.Same.{Bytes, becomes-one}
 use Rattle.layout.specs.Opening.{topCells}
 use Rattle.store.specs.Answers.{Numbers, refusal}
 use Rattle.store.specs.Tables.{Row, row, Applies, Lowest, from-least}
 use Rattle.store.specs.Promises.{meaning, at, Answers, damagedRow, Openable, Opened, OpenPromise, Told, SwitchDone, parentAt, GotoPromise, BackPromise, LookPromise, PeekPromise}
 use Rattle.demands.specs.Calls.{Promised, table, Done, Called, called, done-sound, Code, is-done, is-refused, code-of, opens, sound-lowest}
 use Rattle.demands.specs.Tests.{sizeAt}
-use Rattle.demands.specs.AsAct.{AsAct, as-act, done-effect}
+use Rattle.demands.specs.AsAct.{AsAct, as-act, done-effect, told-none}
 use Rattle.demands.specs.NeverRead.{opened-value, above-damaged}
 use Rattle.demands.specs.Held.{Held, Way, switch-held}
 
@@ -135,10 +138,16 @@ pub record Walked (s t : List ℕ) (a : ℕ) (s′ t′ : List ℕ) (n : Numbers
       ++ trace (view s .tree) (map entered (reverse (apart (path (view s .tree) a) (path (view s .tree) (focus s)))))
   pub traced : t′ ≡ told events t
   pub counted : n .events ≡ length events
+  -- each event is told at the focus that the walk has reached when it is due, its wind left already or not yet entered; so a
+  -- thunk that saves its place and is resumed there moves nothing
+  pub placed : InPlace (view s) moves events
 
 pub record Demand3 : Type 0 where
   pub goto : (s t : List ℕ) (a : ℕ) (s′ t′ : List ℕ) (n : Numbers) → Bytes s → GotoPromise s t a s′ t′ n → n .code ≡ 0 → Walked s t a s′ t′ n
   pub back : (s t s′ t′ : List ℕ) (n : Numbers) → Bytes s → BackPromise s t s′ t′ n → n .code ≡ 0 → Walked s t (parentAt s) s′ t′ n
+  -- resumed where the focus is: done with no move and no event, and no byte differs
+  pub resumed : (s t s′ t′ : List ℕ) (n : Numbers) → Bytes s → Bytes s′ → Sound s → GotoPromise s t (focus s) s′ t′ n
+      → Told n (pos (focus s)) 0 0 × (s′ ≡ s) × (t′ ≡ t)
 
 -- ==== proofs of 1
 -- every number of a table is one of the store's
@@ -311,10 +320,35 @@ walked s t a s′ t′ n b ok d =
       winds = w .told ∙ ap (trace (view s .tree)) (w .order) ∙ trace-order (view s .tree) (focus s) a;
       traced = d .trace;
       counted = ap (λ (k : Numbers). k .events) (d .answer);
+      placed = rw (w .told) (moves-placed (sound-view s ok) (w .moves));
     }
+
+stays : (s t s′ t′ : List ℕ) (n : Numbers) → Bytes s → Bytes s′ → Sound s → SwitchDone s t (focus s) s′ t′ n → Told n (pos (focus s)) 0 0 × (s′ ≡ s) × (t′ ≡ t)
+unfolding view viewF fieldsOf
+stays s t s′ t′ n b b′ ok d =
+    let (seen, moves, count, events) = switched-determined (view s) (view s′) (view s) (focus s) (d .moves) [] (length (d .moves)) 0 (d .events) [] (sound-view s ok) (d .switched) (resumes (view s) (sound-view s ok)) in (
+      d .answer ∙ (λ i. record { code = 0; out = pos (focus s); moves = length (moves i); events = length (events i) }),
+      becomes-one b′ b (record { sound = d .sound; seen = seen; kept = d .kept }) (record { sound = ok; seen = refl; kept = kept-self s }),
+      d .trace ∙ ap (λ (es : List Event). told es t) events ∙ told-none t,
+    )
+
+resumed-there : (s t s′ t′ : List ℕ) (n : Numbers) → Bytes s → Bytes s′ → Sound s → GotoPromise s t (focus s) s′ t′ n
+    → Told n (pos (focus s)) 0 0 × (s′ ≡ s) × (t′ ≡ t)
+resumed-there s t s′ t′ n b b′ ok p = go (p .answers .lowest .exact)
+  where
+    no-event : length (eventsTo s (focus s)) ≡ 0
+    no-event = ap length (events-none (view s .tree) (sound-view s ok .proper) (focus s))
+
+    go : (n .code ≡ 0) ⊎ Applies (conditions (Call.goto (focus s)) s t) (n .code) → Told n (pos (focus s)) 0 0 × (s′ ≡ s) × (t′ ≡ t)
+    go (inl e) = stays s t s′ t′ n b b′ ok (p .answers .done e)
+    go (inr (inl (e, bad))) = absurd (bad ok)
+    go (inr (inr (inl (e, un)))) = absurd (un (focus-made s ok))
+    go (inr (inr (inr (inl (e, w))))) = absurd (omega (arith, no-event))
+    go (inr (inr (inr (inr z)))) = absurd z
 
 pub demand-3 : Demand3
 demand-3 = record {
   goto = λ s t a s′ t′ n b p e. walked s t a s′ t′ n b (done-sound (p .answers .lowest) e) (p .answers .done e);
   back = λ s t s′ t′ n b p e. walked s t (parentAt s) s′ t′ n b (done-sound (p .answers .lowest) e) (p .answers .done e);
+  resumed = resumed-there;
 }

@@ -53,15 +53,17 @@ module _ (s : List ℕ) (ok : Sound s) where
   t = view s .tree
 
   module _ (n : ℕ) (made : IsMade s n) where
-    left-wind : 4 ≤ kindN (nodeOf s n) → kindN (nodeOf s n) ≤ 5 → leftEvents s n ≡ record { entering = false; thunk = postN (nodeOf s n); place = n } ∷ []
-    left-wind l h = ap (λ (w : What). leaving w n (parentOf (t .up n))) (what-node s ok n made ∙ what-wind (nodeOf s n) l h)
-
-    left-none : (4 ≤ kindN (nodeOf s n) → kindN (nodeOf s n) ≤ 5 → ⊥) → leftEvents s n ≡ []
-    left-none h = none-left (t .what n) n (parentOf (t .up n)) (ap isWind (what-node s ok n made) ∙ plain (nodeOf s n) h)
-
     parent : 4 ≤ kindN (nodeOf s n) → kindN (nodeOf s n) ≤ 5 → t .up n ≡ some (parentN (nodeOf s n))
     unfolding view viewF treeF fieldsOf
     parent l h = ap upN (node-in s n (made-room s ok n made)) ∙ up-node (nodeOf s n) (omega arith) h
+
+    left-wind : 4 ≤ kindN (nodeOf s n) → kindN (nodeOf s n) ≤ 5 → leftEvents s n ≡ record { entering = false; thunk = postN (nodeOf s n); place = parentN (nodeOf s n) } ∷ []
+    left-wind l h =
+        ap (λ (w : What). leaving w n (parentOf (t .up n))) (what-node s ok n made ∙ what-wind (nodeOf s n) l h)
+        ∙ ap (λ (o : Option ℕ). leaving (wind (varN (nodeOf s n)) (postN (nodeOf s n))) n (parentOf o)) (parent l h)
+
+    left-none : (4 ≤ kindN (nodeOf s n) → kindN (nodeOf s n) ≤ 5 → ⊥) → leftEvents s n ≡ []
+    left-none h = none-left (t .what n) n (parentOf (t .up n)) (ap isWind (what-node s ok n made) ∙ plain (nodeOf s n) h)
 
     entered-wind : 4 ≤ kindN (nodeOf s n) → kindN (nodeOf s n) ≤ 5 → enteredEvents s n ≡ record { entering = true; thunk = varN (nodeOf s n); place = parentN (nodeOf s n) } ∷ []
     entered-wind l h =
@@ -76,8 +78,8 @@ module _ (s : List ℕ) (ok : Sound s) where
       pub left-one : length (leftEvents s n) ≡ 1
       left-one = ap length (left-wind low high)
 
-      pub left-told : (e q : ℕ) → q ≡ postN (nodeOf s n) → after ≡ splice now (eventSize * e) eventSize (eventD 0 q n) → after ≡ toldAt e (leftEvents s n) now
-      left-told e q f h = h ∙ rw (f, left-wind low high) (sym (told-left e (postN (nodeOf s n)) n now))
+      pub left-told : (e q p : ℕ) → q ≡ postN (nodeOf s n) → p ≡ parentN (nodeOf s n) → after ≡ splice now (eventSize * e) eventSize (eventD 0 q p) → after ≡ toldAt e (leftEvents s n) now
+      left-told e q p f g h = h ∙ rw (f, g, left-wind low high) (sym (told-left e (postN (nodeOf s n)) (parentN (nodeOf s n)) now))
 
       pub entered-one : length (enteredEvents s n) ≡ 1
       entered-one = ap length (entered-wind low high)

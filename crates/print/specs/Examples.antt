@@ -23,7 +23,7 @@ pub entered : eventLine true 10 1 ≡ bytes "enter=10@1\n"
 unfolding eventLine decimal tens
 entered = refl
 
-pub left : eventLine false 11 2 ≡ bytes "leave=11@2\n"
+pub left : eventLine false 11 1 ≡ bytes "leave=11@1\n"
 unfolding eventLine decimal tens
 left = refl
 

@@ -110,7 +110,7 @@ pub(crate) fn note(t: &mut [u8], e: usize, d: u8, thunk: usize, place: usize)
     put_event(&mut t[a..b], d, thunk, place);
 }
 
-// Leaving n, told as the event e if n is a wind: the number of the next. The place is the wind itself.
+// Leaving n, told as the event e if n is a wind: the number of the next. The place is the wind's parent.
 fn tell_left(s: &[u8], t: &mut [u8], n: usize, e: usize) -> usize
     requires { ⌜ Sound (now s) × IsMade (now s) n ⌝ }
     requires { ⌜ eventSize * (e + length (leftEvents (now s) n)) ≤ length (now t) ⌝ }
@@ -119,7 +119,7 @@ fn tell_left(s: &[u8], t: &mut [u8], n: usize, e: usize) -> usize
     let k = kind_of(s, n);
     match k {
         4..=5 => {
-            note(t, e, 0, post_of(s, n), n);
+            note(t, e, 0, post_of(s, n), parent_of(s, n));
             e + 1
         }
         _ => e,

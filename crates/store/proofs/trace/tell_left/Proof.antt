@@ -14,13 +14,14 @@ kind-of-requires c κs = let (ok, made) = c .before .before .pre .0 in (sound-fi
 post-of-requires : tie.Need-post-of-requires
 post-of-requires c κs = let (ok, made) = c .before .before .before .before .before .before .pre .0 in (sound-fit _ ok, made-room _ ok _ made)
 
+parent-of-requires : tie.Need-parent-of-requires
+parent-of-requires c κs = let (ok, made) = c .before .before .before .before .before .before .before .pre .0 in (sound-fit _ ok, made-room _ ok _ made)
+
 note-requires : tie.Need-note-requires
 note-requires c κs =
-    let st = c .before .before .before .before .before .before .before in
+    let st = c .before .before .before .before .before .before .before .before in
     let (ok, made) = st .pre .0 in
     let one = left-one _ ok (st .args .n) made (omega arith) (omega arith) [] [] in
-    let fit = sound-fit _ ok in
-    let below = made-room _ ok _ made in
     omega (arith, st .pre .1)
 
 add-result : tie.Need-add-result
@@ -32,10 +33,10 @@ same-length c = search needs
 returns : tie.Need-returns
 returns c =
     let done = c .before .before in
-    let st = done .before .before .before .before .before .before .before .before in
+    let st = done .before .before .before .before .before .before .before .before .before in
     let (ok, made) = st .pre .0 in
     let one = left-one _ ok (st .args .n) made (omega arith) (omega arith) [] [] in
-    (omega arith, left-told _ ok _ made (omega arith) (omega arith) _ _ _ _ (done .before .post-of .ensures .0) (done .note .ensures))
+    (omega arith, left-told _ ok _ made (omega arith) (omega arith) _ _ _ _ _ (done .before .before .post-of .ensures .0) (done .before .parent-of .ensures .0) (done .note .ensures))
 
 returns-2 : tie.Need-returns-2
 returns-2 c =
@@ -57,6 +58,7 @@ tell-left-spec =
     (tie.spec
     kind-of-requires
     post-of-requires
+    parent-of-requires
     note-requires
     add-result
     same-length
