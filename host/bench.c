@@ -65,7 +65,8 @@ static void put_back(const struct spot *p, struct shape *s)
 /* Both faces have to give the same sum of answers. */
 static uint64_t sum(uint64_t before, kn_answer r)
 {
-    return before * 31 + r.code + 3u * (uint32_t)r.out + 5u * r.moves + 7u * r.events;
+    return before * 31 + r.code + 3u * (uint32_t)r.out + 5u * r.moves
+           + 7u * r.events + 11u * r.by;
 }
 
 static uint64_t run_open(const struct face *f, struct job *j, unsigned times)

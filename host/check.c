@@ -56,14 +56,16 @@ int check(int good, const char *what)
 int check_answer(kn_answer got, kn_answer want, const char *what)
 {
     int good = got.code == want.code && got.out == want.out
-               && got.moves == want.moves && got.events == want.events;
+               && got.moves == want.moves && got.events == want.events
+               && got.by == want.by;
 
     if (!check(good, what) && failures <= SHOWN)
-        printf("     got code=%u out=%d moves=%u events=%u,"
-               " want code=%u out=%d moves=%u events=%u\n",
+        printf("     got code=%u out=%d moves=%u events=%u by=%u,"
+               " want code=%u out=%d moves=%u events=%u by=%u\n",
                (unsigned)got.code, (int)got.out, (unsigned)got.moves,
-               (unsigned)got.events, (unsigned)want.code, (int)want.out,
-               (unsigned)want.moves, (unsigned)want.events);
+               (unsigned)got.events, (unsigned)got.by, (unsigned)want.code,
+               (int)want.out, (unsigned)want.moves, (unsigned)want.events,
+               (unsigned)want.by);
     return good;
 }
 
@@ -75,13 +77,19 @@ int check_report(void)
 
 kn_answer done(int32_t out, uint32_t moves, uint32_t events)
 {
-    kn_answer r = { out, KN_DONE, (uint16_t)moves, (uint16_t)events };
+    kn_answer r = { out, KN_DONE, (uint16_t)moves, (uint16_t)events, 0 };
+    return r;
+}
+
+kn_answer seen(int32_t value, uint32_t by)
+{
+    kn_answer r = { value, KN_DONE, 0, 0, (uint16_t)by };
     return r;
 }
 
 kn_answer refused(uint32_t code)
 {
-    kn_answer r = { 0, (uint16_t)code, 0, 0 };
+    kn_answer r = { 0, (uint16_t)code, 0, 0, 0 };
     return r;
 }
 

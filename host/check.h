@@ -16,6 +16,7 @@ int  check_answer(kn_answer got, kn_answer want, const char *what);
 int  check_report(void);            /* prints the counts; an exit status   */
 
 kn_answer done(int32_t out, uint32_t moves, uint32_t events);
+kn_answer seen(int32_t value, uint32_t by);
 kn_answer refused(uint32_t code);
 
 /* ---- Chance: the same numbers in every run ---- */

@@ -314,7 +314,15 @@ static unsigned route(const struct model *m, unsigned from, unsigned to,
 static kn_answer answer(uint32_t code, int32_t out, unsigned moves,
                         unsigned events)
 {
-    kn_answer r = { out, (uint16_t)code, (uint16_t)moves, (uint16_t)events };
+    kn_answer r = { out, (uint16_t)code, (uint16_t)moves, (uint16_t)events, 0 };
+    return r;
+}
+
+static kn_answer value_answer(const struct model *m, unsigned a, unsigned x)
+{
+    kn_answer r = answer(KN_DONE, model_value_at(m, a, x).value, 0, 0);
+
+    r.by = (uint16_t)model_decider(m, a, x);
     return r;
 }
 
@@ -399,8 +407,8 @@ kn_answer model_call(struct model *m, const struct call *c, size_t trace_len,
         return answer(code, 0, 0, 0);
     }
     switch (c->kind) {
-    case LOOK: return answer(0, model_value_at(m, m->focus, c->x).value, 0, 0);
-    case PEEK: return answer(0, model_value_at(m, c->a, c->x).value, 0, 0);
+    case LOOK: return value_answer(m, m->focus, c->x);
+    case PEEK: return value_answer(m, c->a, c->x);
     case SET: set_value(m, c->x, c->v); break;
     case BIND: case WIND: make_node(m, c); break;
     default: m->focus = to;

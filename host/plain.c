@@ -88,20 +88,22 @@ static unsigned focus_parent(const uint8_t *store)
 
 static kn_answer done(uint32_t out, uint32_t moves, uint32_t events)
 {
-    kn_answer r = { (int32_t)out, KN_DONE, (uint16_t)moves, (uint16_t)events };
+    kn_answer r = { (int32_t)out, KN_DONE, (uint16_t)moves, (uint16_t)events, 0 };
     return r;
 }
 
 static kn_answer refuse(uint32_t code)
 {
-    kn_answer r = { 0, (uint16_t)code, 0, 0 };
+    kn_answer r = { 0, (uint16_t)code, 0, 0, 0 };
     return r;
 }
 
-/* What a cell, or a stored cell, has to say. */
-static kn_answer cell_answer(unsigned state, uint32_t value)
+/* What a cell, or a stored cell, has to say, and who decides it. */
+static kn_answer cell_answer(unsigned state, uint32_t value, unsigned by)
 {
-    return state == 1 ? done(value, 0, 0) : refuse(KN_UNBOUND);
+    kn_answer r = { (int32_t)value, KN_DONE, 0, 0, (uint16_t)by };
+
+    return state == 1 ? r : refuse(KN_UNBOUND);
 }
 
 /* ---- Soundness ---- */
@@ -387,6 +389,23 @@ kn_answer pl_wind(uint8_t *store, size_t store_len,
     return done(focus_of(store), 0, 1);
 }
 
+static int binds(const uint8_t *node, unsigned x)
+{
+    return is_binding(node[0]) && name_of(node) == x;
+}
+
+/* The nearest binding of x from n up, n itself first; else 0, the top. */
+static unsigned decider(const uint8_t *nodes, unsigned n, unsigned x)
+{
+    const uint8_t *node = nodes + (size_t)n * KN_NODE_BYTES;
+
+    while (n != 0 && !binds(node, x)) {
+        n = parent_of(node);
+        node = nodes + (size_t)n * KN_NODE_BYTES;
+    }
+    return n;
+}
+
 kn_answer pl_look(const uint8_t *store, size_t store_len, uint32_t x)
 {
     const uint8_t *cell;
@@ -396,7 +415,8 @@ kn_answer pl_look(const uint8_t *store, size_t store_len, uint32_t x)
     if (x >= vars_of(store))
         return refuse(KN_NO_VARIABLE);
     cell = store + cell_at(x);
-    return cell_answer(cell[0], get32(cell + 1));
+    return cell_answer(cell[0], get32(cell + 1),
+                       decider(store + nodes_at(store), focus_of(store), x));
 }
 
 kn_answer pl_set(uint8_t *store, size_t store_len, uint32_t x, int32_t v)
@@ -441,32 +461,28 @@ kn_answer pl_back(uint8_t *store, size_t store_len,
     return switch_to(store, trace, trace_len, focus_parent(store));
 }
 
-static int binds(const uint8_t *node, unsigned x)
-{
-    return is_binding(node[0]) && name_of(node) == x;
-}
-
-/* The value of x at a node that is in: what the last binding of x on the way
-   from the focus to that node stores; else the cell. */
-static kn_answer peek_in(const uint8_t *store, unsigned a, unsigned x)
+/* The value of a decider that is in, or of the top: what the last binding of
+   x on the way from the focus to it stores; else the cell. */
+static kn_answer peek_in(const uint8_t *store, unsigned by, unsigned x)
 {
     const uint8_t *nodes = store + nodes_at(store), *node, *last = NULL;
     const uint8_t *cell = store + cell_at(x);
     unsigned n;
 
-    for (n = focus_of(store); n != a; n = parent_of(node)) {
+    for (n = focus_of(store); n != by; n = parent_of(node)) {
         node = nodes + (size_t)n * KN_NODE_BYTES;
         if (binds(node, x))
             last = node;
     }
-    return last != NULL ? cell_answer(last[1], value_of(last))
-                        : cell_answer(cell[0], get32(cell + 1));
+    return last != NULL ? cell_answer(last[1], value_of(last), by)
+                        : cell_answer(cell[0], get32(cell + 1), by);
 }
 
 kn_answer pl_peek(const uint8_t *store, size_t store_len,
                   uint32_t a, uint32_t x)
 {
-    const uint8_t *nodes, *node;
+    const uint8_t *node;
+    unsigned by;
 
     if (!sound(store, store_len))
         return refuse(KN_DAMAGED);
@@ -474,15 +490,11 @@ kn_answer pl_peek(const uint8_t *store, size_t store_len,
         return refuse(KN_NO_VARIABLE);
     if (a >= made_of(store))
         return refuse(KN_NO_ENVIRONMENT);
-    nodes = store + nodes_at(store);
-    node = nodes + (size_t)a * KN_NODE_BYTES;
-    while (is_out(node[0])) {
-        if (binds(node, x))
-            return cell_answer(node[1], value_of(node));
-        a = parent_of(node);
-        node = nodes + (size_t)a * KN_NODE_BYTES;
-    }
-    return peek_in(store, a, x);
+    by = decider(store + nodes_at(store), a, x);
+    node = store + node_at(store, by);
+    if (is_out(node[0]))
+        return cell_answer(node[1], value_of(node), by);
+    return peek_in(store, by, x);
 }
 
 uint32_t pl_limit(uint32_t which)

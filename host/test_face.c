@@ -41,18 +41,20 @@ static void struct_abi(void)
     check(sizeof(kn_answer) == 12, "12 bytes");
     check(offsetof(kn_answer, out) == 0 && offsetof(kn_answer, code) == 4
           && offsetof(kn_answer, moves) == 6
-          && offsetof(kn_answer, events) == 8, "its fields' places");
+          && offsetof(kn_answer, events) == 8
+          && offsetof(kn_answer, by) == 10, "its fields' places");
     lent_take(&store, KN_SIZE(1, 8));
     lent_take(&trace, 10);
     s = store.bytes;
     r = kn_open(1, 8, tops, 5, store.bytes, store.len);
     check_answer(r, done(0, 0, 0), "open");
-    check_answer(kn_look(s, store.len, 0), done(INT32_MAX, 0, 0), "out is 32-bit");
+    check_answer(kn_look(s, store.len, 0), seen(INT32_MAX, 0), "out is 32-bit");
     kn_bind(store.bytes, store.len, 0, INT32_MIN);
-    check_answer(kn_look(s, store.len, 0), done(INT32_MIN, 0, 0), "out is signed");
+    check_answer(kn_look(s, store.len, 0), seen(INT32_MIN, 1), "out is signed");
     kn_wind(store.bytes, store.len, trace.bytes, trace.len, 65535, 65534);
     kn_wind(store.bytes, store.len, trace.bytes, trace.len, 1, 2);
     kn_bind(store.bytes, store.len, 0, 7);
+    check_answer(kn_look(s, store.len, 0), seen(7, 4), "by is its own");
     check_answer(kn_goto(store.bytes, store.len, trace.bytes, trace.len, 1),
                  done(1, 3, 2), "every field its own");
     check(trace.bytes[6] == 0xfe && trace.bytes[7] == 0xff, "q is 16-bit");

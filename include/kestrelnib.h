@@ -90,6 +90,8 @@ typedef struct kn_answer {
     uint16_t code;
     uint16_t moves;  /* goto, back: environments left and entered           */
     uint16_t events; /* wind, goto, back: events written to the trace       */
+    uint16_t by;     /* look, peek: the environment whose binding decides
+                        the value, 0 for the top value; else 0              */
 } kn_answer;
 
 /* ---- The trace ---------------------------------------------------------- */
@@ -132,7 +134,9 @@ kn_answer kn_wind(uint8_t *store, size_t store_len,
 /* ---- Values ------------------------------------------------------------- */
 
 /* The value of x in an environment is that of the nearest binding of x on
-   the way to the top, itself first; else the top value. */
+   the way to the top, itself first; else the top value. Look and peek answer
+   the value, and in by the number of that binding's environment: 0 where the
+   top value decides. */
 
 /* The value at the focus. Refusals: DAMAGED, NO_VARIABLE, UNBOUND. */
 kn_answer kn_look(const uint8_t *store, size_t store_len, uint32_t x);

@@ -5,6 +5,7 @@ use crate::model::SPACE;
 use crate::model::Says;
 use layout::Store;
 use store::Answer;
+use store::Seen;
 
 fn cut32(n: usize) -> u32 {
     (n % 4_294_967_296) as u32
@@ -46,6 +47,17 @@ fn says(code: usize, out: usize, moves: usize, events: usize) -> Says {
         out,
         moves,
         events,
+        by: model::NO_ONE,
+    }
+}
+
+fn seen(v: Seen) -> Says {
+    Says {
+        code: 0,
+        out: wide32(unsigned(v.value)),
+        moves: 0,
+        events: 0,
+        by: wide(v.by),
     }
 }
 
@@ -55,7 +67,7 @@ pub(crate) fn told(r: Answer) -> Says {
         Answer::Opened => says(0, 0, 0, 0),
         Answer::Number(n) => says(0, wide(n), 0, 0),
         Answer::Made(n) => says(0, wide(n.node), 0, wide(n.events)),
-        Answer::Value(v) => says(0, wide32(unsigned(v)), 0, 0),
+        Answer::Value(v) => seen(v),
         Answer::Switched(w) => says(0, wide(w.focus), wide(w.moves), wide(w.events)),
         Answer::Setup => says(1, 0, 0, 0),
         Answer::Damaged => says(2, 0, 0, 0),
@@ -114,7 +126,7 @@ pub(crate) fn agree(a: Says, b: Says) -> bool {
     if a.code != b.code || a.out != b.out {
         return false;
     }
-    if a.moves != b.moves {
+    if a.moves != b.moves || a.by != b.by {
         return false;
     }
     a.events == b.events

@@ -43,12 +43,16 @@ pub(crate) const WIND: usize = 2;
 // A value is its 32 bits; this mark stands for none.
 pub(crate) const UNBOUND: usize = 4_294_967_296;
 
-// What a call answers: its number, the answer, moves and events.
+// No environment has this number: there is no decider to tell.
+pub(crate) const NO_ONE: usize = 65_536;
+
+// What a call answers: its number, the answer, moves and events, and of a value the decider.
 pub(crate) struct Says {
     pub code: usize,
     pub out: usize,
     pub moves: usize,
     pub events: usize,
+    pub by: usize,
 }
 
 pub(crate) fn refused(code: usize) -> Says {
@@ -57,6 +61,7 @@ pub(crate) fn refused(code: usize) -> Says {
         out: 0,
         moves: 0,
         events: 0,
+        by: NO_ONE,
     }
 }
 
@@ -66,6 +71,17 @@ fn done(out: usize) -> Says {
         out,
         moves: 0,
         events: 0,
+        by: NO_ONE,
+    }
+}
+
+fn seen(f: Found) -> Says {
+    Says {
+        code: 0,
+        out: f.value,
+        moves: 0,
+        events: 0,
+        by: f.by,
     }
 }
 
@@ -279,6 +295,7 @@ pub(crate) fn way(m: &[usize; SPACE], a: usize, notes: &mut [u8]) -> Says {
         out: a,
         moves: plus(left, entered),
         events: enter_all(m, &q, entered, notes, e),
+        by: NO_ONE,
     }
 }
 
@@ -407,6 +424,7 @@ pub(crate) fn wind(
         out: n,
         moves: 0,
         events: enter(m, n, notes, 0),
+        by: NO_ONE,
     }
 }
 
@@ -421,7 +439,7 @@ pub(crate) fn peek(m: &[usize; SPACE], a: usize, x: usize) -> Says {
     if f.value == UNBOUND {
         return refused(5);
     }
-    done(f.value)
+    seen(f)
 }
 
 pub(crate) fn look(m: &[usize; SPACE], x: usize) -> Says {

@@ -2,6 +2,7 @@
 use crate::draw;
 use crate::draw::Op;
 use crate::draw::Plan;
+use crate::model::NO_ONE;
 use crate::model::Says;
 use libc::STDOUT_FILENO;
 
@@ -98,11 +99,22 @@ pub(crate) fn operation(o: Op) {
     line(b" trace bytes", trace);
 }
 
+fn decider(by: usize) {
+    if by == NO_ONE {
+        text(b"none");
+    } else {
+        number(by);
+    }
+}
+
 pub(crate) fn answer(who: &[u8], a: Says) {
     text(who);
     field(b": code", a.code);
     text(b" out=");
     value(a.out);
     field(b" moves", a.moves);
-    line(b" events", a.events);
+    field(b" events", a.events);
+    text(b" by=");
+    decider(a.by);
+    text(b"\n");
 }

@@ -18,7 +18,7 @@ use Rattle.store.specs.Answers.{Numbers}
 use Rattle.print.specs.declared.Out.{Out}
 use Rattle.print.specs.declared.Out.the-variants.{None, Number, Value}
 use Rattle.print.specs.declared.Report.{Report}
-use Rattle.print.specs.Printed.{outText, opLine}
+use Rattle.print.specs.Printed.{outText, byOf, byText, opLine}
 use Rattle.card.specs.Cards.{Opens, Breaks, Checked, text}
 use Rattle.card.specs.Running.{callOf, outOf, shown, Plain, Ran}
 
@@ -70,15 +70,15 @@ out-text : (o : Out) → Plain 0 o → outText o ≡ whole (outOf o)
 unfolding whole
 out-text None p = absurd p
 out-text (Number n) p = refl
-out-text (Value v) p = refl
+out-text (Value v by) p = refl
 
 out-one : (c : ℕ) (a b : Out) → Plain c a → Plain c b → outOf a ≡ outOf b → outText a ≡ outText b
 out-one zero a b p q e = out-text a p ∙ ap whole e ∙ sym (out-text b q)
 out-one (suc c) None None p q e = refl
 out-one (suc c) None (Number n) p q e = absurd q
-out-one (suc c) None (Value v) p q e = absurd q
+out-one (suc c) None (Value v by) p q e = absurd q
 out-one (suc c) (Number n) b p q e = absurd p
-out-one (suc c) (Value v) b p q e = absurd p
+out-one (suc c) (Value v by) b p q e = absurd p
 
 line-one : (r q : Report) → r .op ≡ q .op → shown r ≡ shown q → Plain (r .code) (r .out) → Plain (q .code) (q .out) → opLine r ≡ opLine q
 unfolding opLine
@@ -87,7 +87,8 @@ line-one r q o e p p′ =
     let moves : r .moves ≡ q .moves = ap (λ (n : Numbers). n .moves) e in
     let events : r .events ≡ q .events = ap (λ (n : Numbers). n .events) e in
     let out : outText (r .out) ≡ outText (q .out) = out-one (q .code) (r .out) (q .out) (rw code at p) p′ (ap (λ (n : Numbers). n .out) e) in
-    rw (o, code, out, moves, events)
+    let by : byText (byOf (r .out)) ≡ byText (byOf (q .out)) = ap (λ (n : Numbers). byText (n .by)) e in
+    rw (o, code, out, moves, events, by)
 
 pub ran-one : (k : ℕ) (o : Op) (s t s′ t′ s″ t″ : List ℕ) (r q : Report) → Bytes s′ → Bytes s″ → Ran k o s t s′ t′ r → Ran k o s t s″ t″ q
     → (opLine r ≡ opLine q) × (s′ ≡ s″) × (t′ ≡ t″)

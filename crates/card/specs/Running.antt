@@ -14,6 +14,7 @@ use Rattle.text.specs.declared.line.Op.the-variants as Op
 use Rattle.print.specs.declared.Out.{Out}
 use Rattle.print.specs.declared.Out.the-variants.{None, Number, Value}
 use Rattle.print.specs.declared.Report.{Report}
+use Rattle.print.specs.Printed.{byOf}
 use Rattle.demands.specs.Calls.{Promised}
 
 -- the call that an operation stands for
@@ -31,18 +32,18 @@ callOf (Op.Peek a x) = Call.peek a x
 abbrev pub outOf : Out → ℤ
 outOf None = pos 0
 outOf (Number n) = pos n
-outOf (Value v) = v
+outOf (Value v by) = v
 
 abbrev pub shown : Report → Numbers
-shown r = record { code = r .code; out = outOf (r .out); moves = r .moves; events = r .events }
+shown r = record { code = r .code; out = outOf (r .out); moves = r .moves; events = r .events; by = byOf (r .out) }
 
 abbrev pub Plain : ℕ → Out → Type 0
 Plain zero None = ⊥
 Plain zero (Number n) = Unit {0}
-Plain zero (Value v) = Unit {0}
+Plain zero (Value v by) = Unit {0}
 Plain (suc k) None = Unit {0}
 Plain (suc k) (Number n) = ⊥
-Plain (suc k) (Value v) = ⊥
+Plain (suc k) (Value v by) = ⊥
 
 -- the operation o with the number k, run from the store s and the trace t to s′ and t′, with the report r
 pub record Ran (k : ℕ) (o : Op) (s t s′ t′ : List ℕ) (r : Report) : Type 0 where
@@ -61,7 +62,7 @@ unfoldable pub reportOf : ℕ → Answer → Report
 reportOf op Answer.Opened = done op 0 0 0
 reportOf op (Answer.Number n) = done op n 0 0
 reportOf op (Answer.Made m) = done op (m .node) 0 (m .events)
-reportOf op (Answer.Value v) = record { op = op; code = 0; out = Value v; moves = 0; events = 0 }
+reportOf op (Answer.Value v) = record { op = op; code = 0; out = Value (v .value) (v .by); moves = 0; events = 0 }
 reportOf op (Answer.Switched w) = done op (w .focus) (w .moves) (w .events)
 reportOf op Answer.Setup = refused op setup
 reportOf op Answer.Damaged = refused op damaged

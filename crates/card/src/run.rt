@@ -23,14 +23,14 @@ fn done(op: u32, n: u16, moves: u16, events: u16) -> Report
     }
 }
 
-// Done, with a value.
-fn valued(op: u32, v: i32) -> Report
-    ensures { λ r. ⌜ r ≡ record { op = op; code = 0; out = Out.Value v; moves = 0; events = 0 } ⌝ }
+// Done, with a value and its decider.
+fn valued(op: u32, v: i32, by: u16) -> Report
+    ensures { λ r. ⌜ r ≡ record { op = op; code = 0; out = Out.Value v by; moves = 0; events = 0 } ⌝ }
 {
     Report {
         op,
         code: 0,
-        out: Out::Value(v),
+        out: Out::Value(v, by as u32),
         moves: 0,
         events: 0,
     }
@@ -57,7 +57,7 @@ fn reported(op: u32, a: Answer) -> Report
         Answer::Opened => done(op, 0, 0, 0),
         Answer::Number(n) => done(op, n, 0, 0),
         Answer::Made(m) => done(op, m.node, 0, m.events),
-        Answer::Value(v) => valued(op, v),
+        Answer::Value(v) => valued(op, v.value, v.by),
         Answer::Switched(w) => done(op, w.focus, w.moves, w.events),
         Answer::Setup => refused(op, 1),
         Answer::Damaged => refused(op, 2),

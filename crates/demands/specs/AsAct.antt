@@ -9,14 +9,13 @@ use mathlib.Core.List.{List, []}
 use lib.IntN.{ℤ, pos}
 use lib.ListN.{length}
 use Rattle.rules.specs.Tree.{wind}
-use Rattle.rules.specs.Values.{Cell, value}
 use Rattle.rules.specs.Store as store
 use Rattle.rules.specs.Store.{Deep, home}
 use Rattle.rules.specs.Far.{far}
 use Rattle.rules.specs.Moves.{moves-tree, Event}
 use Rattle.rules.specs.Refusals as refusals
 use Rattle.rules.specs.Refusals.{lowest}
-use Rattle.rules.specs.Act.{Call, Size, shown, backTo, rows, eventsOf, codeOf, outOf, movesOf, answerOf, changed, Outcome, outcome, act, refused, valueIn}
+use Rattle.rules.specs.Act.{Call, Size, shown, backTo, rows, eventsOf, codeOf, outOf, movesOf, byOf, answerOf, changed, Outcome, outcome, act, refused, valueIn}
 use Rattle.rules.specs.Effects.{SameDeep, Effect, act-effect, effect-determined}
 use Rattle.rules.specs.Demands.{switched-count, switched-events}
 use Rattle.layout.specs.Records.{focus}
@@ -28,9 +27,9 @@ use Rattle.layout.specs.Events.{eventsB, told}
 use Rattle.layout.specs.SoundLaws.{sound-view}
 use Rattle.layout.specs.WalkLaws.{kept-self, focus-made}
 use Rattle.layout.specs.Events.{eventsTo}
-use Rattle.store.specs.Answers.{Numbers}
+use Rattle.store.specs.Answers.{Numbers, seen}
 use Rattle.store.specs.Tables as tables
-use Rattle.store.specs.Promises.{meaning, at, roomFor, parentAt, SwitchDone}
+use Rattle.store.specs.Promises.{meaning, at, byAt, roomFor, Shows, parentAt, SwitchDone}
 use Rattle.demands.specs.Calls.{table, Done, Called, Code, is-done, is-refused, code-of, sound-lowest, done-leaves}
 use Rattle.demands.specs.Tests.{sizeAt, refusedAs, lowest-says, next-made, seen-numbered, table-says}
 use Rattle.demands.specs.Plain.{deep-one, plain-meaning, plain-changed, ranks-changed}
@@ -41,7 +40,7 @@ acted c s t = act (sizeAt s) (roomFor t) c (meaning s)
 
 -- document 01's numbers for it
 unfoldable pub numbersOf : Outcome Deep → Numbers
-numbersOf r = record { code = codeOf (r .answer); out = outOf (r .answer); moves = movesOf (r .answer); events = length (r .events) }
+numbersOf r = record { code = codeOf (r .answer); out = outOf (r .answer); moves = movesOf (r .answer); events = length (r .events); by = byOf (r .answer) }
 
 pub record AsAct (c : Call) (s t s′ t′ : List ℕ) (n : Numbers) : Type 0 where
   pub answer : n ≡ numbersOf (acted c s t)
@@ -88,7 +87,7 @@ module _ (c : Call) (s t : List ℕ) where
 -- the numbers and the events of a done call
 module _ (s t s′ t′ : List ℕ) (n : Numbers) (ok : Sound s) where
   abbrev numbered-as : ℤ → ℕ → ℕ → Numbers
-  numbered-as o m e = record { code = 0; out = o; moves = m; events = e }
+  numbered-as o m e = record { code = 0; out = o; moves = m; events = e; by = none }
 
   switch-numbers : (a : ℕ) (d : SwitchDone s t a s′ t′ n) → n ≡ numbered-as (pos a) (far (view s .tree) (focus s) a) (length (eventsTo s a))
   unfolding view viewF fieldsOf
@@ -103,19 +102,19 @@ module _ (s t s′ t′ : List ℕ) (n : Numbers) (ok : Sound s) where
   switch-events a d =
       d .trace ∙ ap (λ (es : List Event). told es t) (switched-events (view s) (view s′) a (d .moves) (length (d .moves)) (d .events) (sound-view s ok) (d .switched))
 
-  value-numbers : (c : Cell) → (v : ℤ) × (n ≡ numbered-as v 0 0) × (c ≡ value v) → n ≡ numbered-as (valueIn c) 0 0
-  value-numbers c (v, e, f) = rw f e
+  value-numbers : (a x : ℕ) → Shows s a x n → n ≡ seen (valueIn (at s a x)) (byAt s a x)
+  value-numbers a x (v, e, f) = rw f e
 
   done-numbers : (c : Call) → Done c s t s′ t′ n → n ≡ numbersOf (unrefused c s)
-  unfolding numbersOf answerOf eventsOf shown backTo meaning home at parentAt view viewF fieldsOf
+  unfolding numbersOf answerOf eventsOf shown backTo meaning home at byAt parentAt view viewF fieldsOf
   done-numbers (Call.bind x v) (d, e) = d .answer ∙ ap (λ (m : ℕ). numbered-as (pos m) 0 0) (sym (next-made s ok))
   done-numbers (Call.wind p q) d = d .answer ∙ ap (λ (m : ℕ). numbered-as (pos m) 0 1) (sym (next-made s ok))
-  done-numbers (Call.look x) (d, e, f) = value-numbers (at s (focus s) x) d
+  done-numbers (Call.look x) (d, e, f) = value-numbers (focus s) x d
   done-numbers (Call.set x v) (d, e) = d .answer
   done-numbers Call.here (d, e, f) = d
   done-numbers (Call.goto a) d = switch-numbers a d
   done-numbers Call.back d = switch-numbers (parentAt s) d
-  done-numbers (Call.peek a x) (d, e, f) = value-numbers (at s a x) d
+  done-numbers (Call.peek a x) (d, e, f) = value-numbers a x d
 
   done-trace : (c : Call) → Done c s t s′ t′ n → t′ ≡ told (eventsOf c (shown (meaning s))) t
   unfolding eventsOf shown backTo meaning home parentAt view viewF fieldsOf

@@ -5,8 +5,7 @@ use mathlib.Core.Logic.{_⊎_, inl, inr}
 use Prim.Native.Nat.{ℕ, zero, suc, _≤_}
 use native.Mathlib.Omega.{arith}
 use mathlib.Core.List.{List, [], _∷_}
-use lib.IntN.{ℤ, pos}
-use Rattle.rules.specs.Values.{value}
+use lib.IntN.{pos}
 use Rattle.rules.specs.Act.{Call}
 use Rattle.rules.specs.Refusals.{setup}
 use Rattle.layout.specs.Records.{focus}
@@ -16,7 +15,7 @@ use Rattle.layout.specs.WalkLaws.{kept-self}
 use Rattle.layout.specs.Events.{eventsTo}
 use Rattle.store.specs.Answers.{Numbers, refusal}
 use Rattle.store.specs.Tables.{Row, Applies, Lowest, row}
-use Rattle.store.specs.Promises.{at, Answers, damagedRow, variableRow, environmentRow, valueRow, fullRow, roomRow, topRow, Told, LookPromise, PeekPromise, HerePromise, SetDone, SetPromise, BindDone, BindPromise, entering, WindDone, WindPromise, SwitchDone, parentAt, GotoPromise, BackPromise, Openable, Opened, OpenPromise}
+use Rattle.store.specs.Promises.{Answers, damagedRow, variableRow, environmentRow, valueRow, fullRow, roomRow, topRow, Told, Shows, LookPromise, PeekPromise, HerePromise, SetDone, SetPromise, BindDone, BindPromise, entering, WindDone, WindPromise, SwitchDone, parentAt, GotoPromise, BackPromise, Openable, Opened, OpenPromise}
 use Rattle.demands.specs.Stable.{sound-stable}
 
 -- what is promised of the call c from the store s and the trace t to s′ and t′, with the numbers n; where no trace is lent,
@@ -45,12 +44,12 @@ table (Call.peek a x) s t = variableRow s x ∷ environmentRow s a ∷ valueRow 
 abbrev pub Done : Call → List ℕ → List ℕ → List ℕ → List ℕ → Numbers → Type 0
 Done (Call.bind x v) s t s′ t′ n = BindDone s x v s′ n × (t′ ≡ t)
 Done (Call.wind p q) s t s′ t′ n = WindDone s t p q s′ t′ n
-Done (Call.look x) s t s′ t′ n = ((v : ℤ) × Told n v 0 0 × (at s (focus s) x ≡ value v)) × (s′ ≡ s) × (t′ ≡ t)
+Done (Call.look x) s t s′ t′ n = Shows s (focus s) x n × (s′ ≡ s) × (t′ ≡ t)
 Done (Call.set x v) s t s′ t′ n = SetDone s x v s′ n × (t′ ≡ t)
 Done Call.here s t s′ t′ n = Told n (pos (focus s)) 0 0 × (s′ ≡ s) × (t′ ≡ t)
 Done (Call.goto a) s t s′ t′ n = SwitchDone s t a s′ t′ n
 Done Call.back s t s′ t′ n = SwitchDone s t (parentAt s) s′ t′ n
-Done (Call.peek a x) s t s′ t′ n = ((v : ℤ) × Told n v 0 0 × (at s a x ≡ value v)) × (s′ ≡ s) × (t′ ≡ t)
+Done (Call.peek a x) s t s′ t′ n = Shows s a x n × (s′ ≡ s) × (t′ ≡ t)
 
 abbrev pub Called : Call → List ℕ → List ℕ → List ℕ → List ℕ → Numbers → Type 0
 Called c s t s′ t′ n = Answers (damagedRow s ∷ table c s t) n ((s′ ≡ s) × (t′ ≡ t)) (Done c s t s′ t′ n)

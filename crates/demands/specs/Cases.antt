@@ -5,6 +5,7 @@
 use mathlib.Core.Path.{_≡_, refl, sym, ap, _∙_}
 use mathlib.Core.Logic.{_⊎_, inl, inr}
 use mathlib.Core.Bool.{true, false}
+use mathlib.Core.Option.{none}
 use Prim.Native.Nat.{ℕ, zero, suc, _*_, _≤_, _<_}
 use Prim.Native.String.{String}
 use native.Mathlib.Omega.{arith}
@@ -15,7 +16,7 @@ use Rattle.rules.specs.Basic.{upd}
 use Rattle.rules.specs.Tree.{path}
 use Rattle.rules.specs.Far.{far}
 use Rattle.rules.specs.Moves.{Event, route}
-use Rattle.rules.specs.Calls.{openDeep, deciderAt, valueAt}
+use Rattle.rules.specs.Calls.{openDeep, deciderAt, decidedBy, valueAt}
 use Rattle.rules.specs.Refusals.{lowest, setup, damaged, noVariable, noEnvironment, noValue, full, traceRoom, atTop}
 use Rattle.rules.specs.Act.{Call, bind, wind, look, set, here, goto, back, peek, isMade, nextNumber, isFull, shown, backTo, eventsOf, rows, answerOf, changed, outcome, act, run}
 use Rattle.layout.specs.Limits.{maxVars, maxNodes, bareSize, sizeOf}
@@ -27,7 +28,7 @@ use Rattle.layout.specs.Made.{IsFull}
 use Rattle.layout.specs.Events.{eventB, eventsB}
 use Rattle.layout.specs.Same.{part-take}
 use Rattle.layout.specs.Opening.{topCells}
-use Rattle.store.specs.Answers.{Numbers, refusal}
+use Rattle.store.specs.Answers.{Numbers, refusal, seen}
 use Rattle.store.specs.Tables.{Applies}
 use Rattle.store.specs.Promises.{damagedRow, variableRow, fullRow, Openable, Opened, OpenPromise, BindPromise}
 use Rattle.demands.specs.Calls.{Promised, called, opens, opens-not}
@@ -82,15 +83,15 @@ abbrev pub Gives : ℕ → ℕ → ℕ → List ℕ → List Call → List Said 
 Gives v k events tops cs said =
     (s s′ : List ℕ) (n : Numbers) (rs : List Said) → sizeOf v k ≤ length s → OpenPromise v k tops s s′ n → Session events s′ cs rs → (n ≡ refusal 0) × (rs ≡ said)
 
--- what a call gives back: done with a number, with a value, after moves; or refused
+-- what a call gives back: done with a number, with a value and its decider, after moves; or refused
 abbrev ok : ℕ → List Event → Said
-ok n es = record { numbers = record { code = 0; out = pos n; moves = 0; events = length es }; events = eventsB es }
+ok n es = record { numbers = record { code = 0; out = pos n; moves = 0; events = length es; by = none }; events = eventsB es }
 
-abbrev val : ℤ → Said
-val v = record { numbers = record { code = 0; out = v; moves = 0; events = 0 }; events = [] }
+abbrev val : ℤ → ℕ → Said
+val v by = record { numbers = seen v by; events = [] }
 
 abbrev went : ℕ → ℕ → List Event → Said
-went n moves es = record { numbers = record { code = 0; out = pos n; moves = moves; events = length es }; events = eventsB es }
+went n moves es = record { numbers = record { code = 0; out = pos n; moves = moves; events = length es; by = none }; events = eventsB es }
 
 abbrev no : ℕ → Said
 no k = record { numbers = refusal k; events = [] }
@@ -121,7 +122,7 @@ table =
     ∷ row "(d) a buffer of 60 is 1" (OpensNotIn 60)
     ∷ row "(d) an opened store lent with 60 is 2" (LentShort 60)
     ∷ row "(e) x=V-1 is good" (Gives 2 4 0 (one ++ one) (look 1 ∷ bind 1 (pos 5) ∷ set 1 (pos 6) ∷ peek 0 1 ∷ [])
-    (val (pos 1) ∷ ok 1 [] ∷ ok 1 [] ∷ val (pos 1) ∷ []))
+    (val (pos 1) 0 ∷ ok 1 [] ∷ ok 1 [] ∷ val (pos 1) 0 ∷ []))
     ∷ row "(e) x=V is 3" (Gives 2 4 0 (one ++ one) (look 2 ∷ bind 2 (pos 5) ∷ set 2 (pos 6) ∷ peek 0 2 ∷ [])
     (no noVariable ∷ no noVariable ∷ no noVariable ∷ no noVariable ∷ []))
     ∷ row "(f) goto made-1 is good, made is 4" (Gives 1 4 0 one (bind 0 (pos 7) ∷ goto 1 ∷ goto 2 ∷ [])
@@ -131,12 +132,12 @@ table =
     ∷ row "(g) room for one is 7, focus unmoved" (Gives 1 4 1 one (wind 1 2 ∷ wind 3 4 ∷ goto 0 ∷ here ∷ [])
     (ok 1 (enters 1 0 ∷ []) ∷ ok 2 (enters 3 1 ∷ []) ∷ no traceRoom ∷ ok 2 [] ∷ []))
     ∷ row "(h) back at the top is 8 even with no room" (Gives 1 4 0 one (back ∷ []) (no atTop ∷ []))
-    ∷ row "(i) the least value comes back" (Gives 1 4 0 one (bind 0 least ∷ look 0 ∷ []) (ok 1 [] ∷ val least ∷ []))
+    ∷ row "(i) the least value comes back" (Gives 1 4 0 one (bind 0 least ∷ look 0 ∷ []) (ok 1 [] ∷ val least 1 ∷ []))
     ∷ row "(j) peek with both numbers too large is 3" (Gives 1 4 0 one (peek 9 9 ∷ []) (no noVariable ∷ []))
     ∷ row "(k) the card" (Gives 1 4 2 one (bind 0 (negsuc 0) ∷ wind 10 11 ∷ bind 0 (pos 1) ∷ goto 0 ∷ goto 3 ∷ look 0 ∷ peek 1 0 ∷ bind 0 (pos 5) ∷ [])
-    (ok 1 [] ∷ ok 2 (enters 10 1 ∷ []) ∷ ok 3 [] ∷ went 0 3 (leaves 11 1 ∷ []) ∷ went 3 3 (enters 10 1 ∷ []) ∷ val (pos 1) ∷ val (negsuc 0) ∷ no full ∷ []))
+    (ok 1 [] ∷ ok 2 (enters 10 1 ∷ []) ∷ ok 3 [] ∷ went 0 3 (leaves 11 1 ∷ []) ∷ went 3 3 (enters 10 1 ∷ []) ∷ val (pos 1) 3 ∷ val (negsuc 0) 1 ∷ no full ∷ []))
     ∷ row "(l) no top value: 5; bound and looked up; 5 again" (Gives 1 4 0 blankCell (look 0 ∷ bind 0 (pos 3) ∷ look 0 ∷ back ∷ look 0 ∷ [])
-    (no noValue ∷ ok 1 [] ∷ val (pos 3) ∷ went 0 1 [] ∷ no noValue ∷ []))
+    (no noValue ∷ ok 1 [] ∷ val (pos 3) 1 ∷ went 0 1 [] ∷ no noValue ∷ []))
     ∷ []
 
 -- ---- opening
@@ -219,7 +220,7 @@ two-vars : (cs : List Call) (said : List Said)
 two-vars cs said e = gives 2 4 0 (one ++ one) cs said (omega arith) (omega arith) (omega arith) (omega arith) tops-two e
 
 pub cases : All table
-unfolding saidBy run act outcome rows answerOf eventsOf changed shown backTo isMade nextNumber isFull lowest upd path route far valueAt deciderAt topCells asCell topC bareC bitsC part eventsB eventB
+unfolding saidBy run act outcome rows answerOf eventsOf changed shown backTo isMade nextNumber isFull lowest upd path route far valueAt deciderAt decidedBy topCells asCell topC bareC bitsC part eventsB eventB
 cases = (
   λ k a b. opens-well 256 k (omega arith) (omega arith) a b,
   (

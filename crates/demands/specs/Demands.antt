@@ -5,6 +5,7 @@
 -- From document 01. Assumes that lent memory holds bytes.
 use mathlib.Core.Path.{_≡_, refl, sym, ap, _∙_}
 use mathlib.Core.Logic.{_⊎_, inl, inr, _≢_}
+use mathlib.Core.Option.{none, some}
 use Prim.Native.Nat.{ℕ, _≤_, _<_}
 use native.Mathlib.Omega.{arith}
 use mathlib.Core.List.{List, [], _∷_, _++_, map, reverse}
@@ -34,9 +35,9 @@ use Rattle.layout.specs.RouteLaws.{events-none}
 use Rattle.layout.specs.WalkLaws.{kept-self, focus-made}
 use Rattle.layout.specs.Same.{Bytes, becomes-one}
 use Rattle.layout.specs.Opening.{topCells}
-use Rattle.store.specs.Answers.{Numbers, refusal}
+use Rattle.store.specs.Answers.{Numbers, refusal, seen}
 use Rattle.store.specs.Tables.{Row, row, Applies, Lowest, from-least}
-use Rattle.store.specs.Promises.{meaning, at, Answers, damagedRow, Openable, Opened, OpenPromise, Told, SwitchDone, parentAt, GotoPromise, BackPromise, LookPromise, PeekPromise}
+use Rattle.store.specs.Promises.{meaning, at, byAt, Answers, Shows, damagedRow, Openable, Opened, OpenPromise, Told, SwitchDone, parentAt, GotoPromise, BackPromise, LookPromise, PeekPromise}
 use Rattle.demands.specs.Calls.{Promised, table, Done, Called, called, done-sound, Code, is-done, is-refused, code-of, opens, sound-lowest}
 use Rattle.demands.specs.Tests.{sizeAt}
 use Rattle.demands.specs.AsAct.{AsAct, as-act, done-effect, told-none}
@@ -79,16 +80,16 @@ pub record OpensSound (v k : ℕ) (tops s s′ : List ℕ) (n : Numbers) : Type 
   pub values : (a x : ℕ) → at s′ a x ≡ topCells v tops x
   pub rest : (length s′ ≡ length s) × (drop (sizeOf v k) s′ ≡ drop (sizeOf v k) s)
 
--- what a done call answers: look and peek the deep rule's value, the others the focus that they leave
+-- what a done call answers: look and peek the deep rule's value and decider, the others the focus that they leave
 abbrev pub Replies : Call → List ℕ → List ℕ → Numbers → Type 0
 Replies (Call.bind x v) s s′ n = n .out ≡ pos (focus s′)
 Replies (Call.wind p q) s s′ n = n .out ≡ pos (focus s′)
-Replies (Call.look x) s s′ n = at s (focus s) x ≡ value (n .out)
+Replies (Call.look x) s s′ n = (at s (focus s) x ≡ value (n .out)) × (n .by ≡ some (byAt s (focus s) x))
 Replies (Call.set x v) s s′ n = n .out ≡ pos (focus s′)
 Replies Call.here s s′ n = n .out ≡ pos (focus s′)
 Replies (Call.goto a) s s′ n = n .out ≡ pos (focus s′)
 Replies Call.back s s′ n = n .out ≡ pos (focus s′)
-Replies (Call.peek a x) s s′ n = at s a x ≡ value (n .out)
+Replies (Call.peek a x) s s′ n = (at s a x ≡ value (n .out)) × (n .by ≡ some (byAt s a x))
 
 pub record ByTheRule (c : Call) (s t s′ t′ : List ℕ) (n : Numbers) : Type 0 where
   -- the store stays sound, of the same size, and no byte past the size changes
@@ -106,18 +107,18 @@ pub record ByTheRule (c : Call) (s t s′ t′ : List ℕ) (n : Numbers) : Type 
   -- all of it, refused or done: the numbers, the events and the meaning are `act`'s
   pub acts : AsAct c s t s′ t′ n
 
--- the numbers of a cell that was read: its value, or that it has none
-abbrev pub readAs : Cell → Numbers
-readAs unbound = refusal noValue
-readAs (value v) = record { code = 0; out = v; moves = 0; events = 0 }
+-- the numbers of a cell that was read: its value with this decider, or that it has none
+abbrev pub readAs : Cell → ℕ → Numbers
+readAs unbound by = refusal noValue
+readAs (value v) by = seen v by
 
 pub record Demand2 : Type 0 where
   pub opening : (v k : ℕ) (tops s s′ : List ℕ) (n : Numbers) → Openable v k tops s → OpenPromise v k tops s s′ n → OpensSound v k tops s s′ n
   pub calls : (c : Call) (s t s′ t′ : List ℕ) (n : Numbers) → Sound s → Promised c s t s′ t′ n → ByTheRule c s t s′ t′ n
-  -- the cells show the focus: of every variable, look gives the deep rule's value there
-  pub cells : (s : List ℕ) (x : ℕ) (s′ : List ℕ) (n : Numbers) → Sound s → x < vars s → LookPromise s x s′ n → n ≡ readAs (at s (focus s) x)
-  -- reading from afar is right in every environment
-  pub afar : (s : List ℕ) (a x : ℕ) (s′ : List ℕ) (n : Numbers) → Sound s → x < vars s → IsMade s a → PeekPromise s a x s′ n → n ≡ readAs (at s a x)
+  -- the cells show the focus: of every variable, look gives the deep rule's value there, and its decider
+  pub cells : (s : List ℕ) (x : ℕ) (s′ : List ℕ) (n : Numbers) → Sound s → x < vars s → LookPromise s x s′ n → n ≡ readAs (at s (focus s) x) (byAt s (focus s) x)
+  -- reading from afar is right in every environment, and its decider too
+  pub afar : (s : List ℕ) (a x : ℕ) (s′ : List ℕ) (n : Numbers) → Sound s → x < vars s → IsMade s a → PeekPromise s a x s′ n → n ≡ readAs (at s a x) (byAt s a x)
   -- a switch alters no environment's value of any variable
   pub goto : (s t : List ℕ) (a : ℕ) (s′ t′ : List ℕ) (n : Numbers) → GotoPromise s t a s′ t′ n → (b x : ℕ) → at s′ b x ≡ at s b x
   pub back : (s t s′ t′ : List ℕ) (n : Numbers) → BackPromise s t s′ t′ n → (b x : ℕ) → at s′ b x ≡ at s b x
@@ -192,16 +193,19 @@ demand-1 = record {
 out-is : {n : Numbers} {o : ℤ} {m e : ℕ} → Told n o m e → n .out ≡ o
 out-is h = ap (λ (k : Numbers). k .out) h
 
+shown-replies : (s : List ℕ) (a x : ℕ) (n : Numbers) → Shows s a x n → (at s a x ≡ value (n .out)) × (n .by ≡ some (byAt s a x))
+shown-replies s a x n (v, e, f) = (f ∙ ap (λ (k : Numbers). value (k .out)) (sym e), ap (λ (k : Numbers). k .by) e)
+
 done-replies : (c : Call) (s t s′ t′ : List ℕ) (n : Numbers) → Done c s t s′ t′ n → Replies c s s′ n
 unfolding meaning home view viewF fieldsOf
 done-replies (Call.bind x v) s t s′ t′ n (d, e) = out-is (d .answer) ∙ ap pos (sym (d .new .focus))
 done-replies (Call.wind p q) s t s′ t′ n d = out-is (d .answer) ∙ ap pos (sym (d .new .focus))
-done-replies (Call.look x) s t s′ t′ n ((v, e, f), g, h) = f ∙ ap value (sym (out-is e))
+done-replies (Call.look x) s t s′ t′ n (d, g, h) = shown-replies s (focus s) x n d
 done-replies (Call.set x v) s t s′ t′ n (d, e) = out-is (d .answer) ∙ ap pos (sym (d .effect .focus))
 done-replies Call.here s t s′ t′ n (e, g, h) = out-is e ∙ ap (λ (u : List ℕ). pos (focus u)) (sym g)
 done-replies (Call.goto a) s t s′ t′ n d = out-is (d .answer) ∙ ap pos (sym (d .switched .arrives))
 done-replies Call.back s t s′ t′ n d = out-is (d .answer) ∙ ap pos (sym (d .switched .arrives))
-done-replies (Call.peek a x) s t s′ t′ n ((v, e, f), g, h) = f ∙ ap value (sym (out-is e))
+done-replies (Call.peek a x) s t s′ t′ n (d, g, h) = shown-replies s a x n d
 
 opens-sound : (v k : ℕ) (tops s s′ : List ℕ) (n : Numbers) → Openable v k tops s → OpenPromise v k tops s s′ n → OpensSound v k tops s s′ n
 opens-sound v k tops s s′ n can p =
@@ -217,15 +221,15 @@ opens-sound v k tops s s′ n can p =
       rest = (o .long, o .past);
     }
 
--- a call whose only rows that may apply ask for the value of c
-module _ (c : Cell) (n : Numbers) where
-  read : (v : ℤ) × Told n v 0 0 × (c ≡ value v) → n ≡ readAs c
+-- a call whose only rows that may apply ask for the value of x at a
+module _ (s : List ℕ) (a x : ℕ) (n : Numbers) where
+  read : Shows s a x n → n ≡ readAs (at s a x) (byAt s a x)
   read (v, e, f) = rw f e
 
-  unread : n ≡ refusal (n .code) → (noValue ≡ n .code) × (c ≡ unbound) → n ≡ readAs c
+  unread : n ≡ refusal (n .code) → (noValue ≡ n .code) × (at s a x ≡ unbound) → n ≡ readAs (at s a x) (byAt s a x)
   unread e (f, g) = rw (g, f) e
 
-looks : (s : List ℕ) (x : ℕ) (s′ : List ℕ) (n : Numbers) → Sound s → x < vars s → LookPromise s x s′ n → n ≡ readAs (at s (focus s) x)
+looks : (s : List ℕ) (x : ℕ) (s′ : List ℕ) (n : Numbers) → Sound s → x < vars s → LookPromise s x s′ n → n ≡ readAs (at s (focus s) x) (byAt s (focus s) x)
 looks s x s′ n ok known p = go (code-of n)
   where
     valued : (n .code ≡ 0) ⊎ Applies (conditions (Call.look x) s []) (n .code) → 1 ≤ n .code → (noValue ≡ n .code) × (at s (focus s) x ≡ unbound)
@@ -235,11 +239,11 @@ looks s x s′ n ok known p = go (code-of n)
     valued (inr (inr (inr (inl w)))) h = w
     valued (inr (inr (inr (inr z)))) h = absurd z
 
-    go : Code n → n ≡ readAs (at s (focus s) x)
-    go (is-done e) = read (at s (focus s) x) n (p .answers .done e)
-    go (is-refused h) = unread (at s (focus s) x) n (p .answers .refused h .0) (valued (p .answers .lowest .exact) h)
+    go : Code n → n ≡ readAs (at s (focus s) x) (byAt s (focus s) x)
+    go (is-done e) = read s (focus s) x n (p .answers .done e)
+    go (is-refused h) = unread s (focus s) x n (p .answers .refused h .0) (valued (p .answers .lowest .exact) h)
 
-peeks : (s : List ℕ) (a x : ℕ) (s′ : List ℕ) (n : Numbers) → Sound s → x < vars s → IsMade s a → PeekPromise s a x s′ n → n ≡ readAs (at s a x)
+peeks : (s : List ℕ) (a x : ℕ) (s′ : List ℕ) (n : Numbers) → Sound s → x < vars s → IsMade s a → PeekPromise s a x s′ n → n ≡ readAs (at s a x) (byAt s a x)
 peeks s a x s′ n ok known made p = go (code-of n)
   where
     valued : (n .code ≡ 0) ⊎ Applies (conditions (Call.peek a x) s []) (n .code) → 1 ≤ n .code → (noValue ≡ n .code) × (at s a x ≡ unbound)
@@ -250,9 +254,9 @@ peeks s a x s′ n ok known made p = go (code-of n)
     valued (inr (inr (inr (inr (inl w))))) h = w
     valued (inr (inr (inr (inr (inr z))))) h = absurd z
 
-    go : Code n → n ≡ readAs (at s a x)
-    go (is-done e) = read (at s a x) n (p .answers .done e)
-    go (is-refused h) = unread (at s a x) n (p .answers .refused h .0) (valued (p .answers .lowest .exact) h)
+    go : Code n → n ≡ readAs (at s a x) (byAt s a x)
+    go (is-done e) = read s a x n (p .answers .done e)
+    go (is-refused h) = unread s a x n (p .answers .refused h .0) (valued (p .answers .lowest .exact) h)
 
 unaltered : {rows : List Row} (s t : List ℕ) (a : ℕ) (s′ t′ : List ℕ) (n : Numbers)
     → Answers rows n ((s′ ≡ s) × (t′ ≡ t)) (SwitchDone s t a s′ t′ n) → (b x : ℕ) → at s′ b x ≡ at s b x
@@ -327,7 +331,7 @@ stays : (s t s′ t′ : List ℕ) (n : Numbers) → Bytes s → Bytes s′ → 
 unfolding view viewF fieldsOf
 stays s t s′ t′ n b b′ ok d =
     let (seen, moves, count, events) = switched-determined (view s) (view s′) (view s) (focus s) (d .moves) [] (length (d .moves)) 0 (d .events) [] (sound-view s ok) (d .switched) (resumes (view s) (sound-view s ok)) in (
-      d .answer ∙ (λ i. record { code = 0; out = pos (focus s); moves = length (moves i); events = length (events i) }),
+      d .answer ∙ (λ i. record { code = 0; out = pos (focus s); moves = length (moves i); events = length (events i); by = none }),
       becomes-one b′ b (record { sound = d .sound; seen = seen; kept = d .kept }) (record { sound = ok; seen = refl; kept = kept-self s }),
       d .trace ∙ ap (λ (es : List Event). told es t) events ∙ told-none t,
     )

@@ -8,7 +8,7 @@ use lib.ListN.{length, take}
 use Rattle.rules.specs.Values.{Cell}
 use Rattle.rules.specs.Store.{Deep, home}
 use Rattle.rules.specs.Calls.{valueAt, openDeep, open-values, home-open}
-use Rattle.rules.specs.Act.{Call, codeOf, outOf, movesOf, Outcome, act, Line, run}
+use Rattle.rules.specs.Act.{Call, codeOf, outOf, movesOf, byOf, Outcome, act, Line, run}
 use Rattle.rules.specs.Effects.{SameDeep}
 use Rattle.layout.specs.Limits.{eventSize}
 use Rattle.layout.specs.Records.{vars, room}
@@ -39,7 +39,7 @@ pub data Session (events : ℕ) : List ℕ → List Call → List Said → Type 
 -- what the rules say of it
 unfoldable pub saidBy : Line → Said
 saidBy l = record {
-  numbers = record { code = codeOf (l .answer); out = outOf (l .answer); moves = movesOf (l .answer); events = length (l .events) };
+  numbers = record { code = codeOf (l .answer); out = outOf (l .answer); moves = movesOf (l .answer); events = length (l .events); by = byOf (l .answer) };
   events = eventsB (l .events);
 }
 

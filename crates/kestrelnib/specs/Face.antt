@@ -1,13 +1,24 @@
--- What crosses to C: the struct's fields are document 01's numbers, and the limits by their place. Assumes nothing: these are definitions.
+-- What crosses to C: the struct's fields are document 01's numbers, and the limits by their place. Assumes nothing.
+use mathlib.Core.Path.{_≡_, sym, ap, _∙_}
 use Prim.Native.Nat.{ℕ, zero, suc}
 use mathlib.Core.List.{List, [], _∷_}
 use lib.ListN.{getD}
+use Rattle.rules.specs.Calls.{numberOf}
 use Rattle.layout.specs.Limits.{maxVars, maxNodes, header, cellSize, nodeSize, eventSize}
 use Rattle.store.specs.Answers.{Numbers}
 use Rattle.kestrelnib.specs.declared.Reply.{Reply}
 
-unfoldable pub told : Reply → Numbers
-told r = record { code = r .code; out = r .out; moves = r .moves; events = r .events }
+-- `by` is 0 where there is none: on a refusal, and from calls that answer no value
+unfoldable pub replyOf : Numbers → Reply
+replyOf n = record { out = n .out; code = n .code; moves = n .moves; events = n .events; by = numberOf (n .by) }
+
+-- the reply r hands over numbers of which P holds
+abbrev pub Hands : Reply → (Numbers → Type 0) → Type 0
+Hands r P = (n : Numbers) × (r ≡ replyOf n) × P n
+
+-- where P leaves no choice, the reply has none
+pub hands-one : {P : Numbers → Type 0} {r q : Reply} → ((n m : Numbers) → P n → P m → n ≡ m) → Hands r P → Hands q P → r ≡ q
+hands-one one (n, e, p) (m, f, q) = e ∙ ap replyOf (one n m p q) ∙ sym f
 
 -- most variables, most environments; bytes of the header, of a cell, of a node, of an event; 0 past these
 unfoldable pub limit : ℕ → ℕ

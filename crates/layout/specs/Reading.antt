@@ -16,7 +16,7 @@ use Rattle.rules.specs.Basic.{clash, eqb-self, on, on-cases}
 use Rattle.rules.specs.Tree.{What, blank, top, wind, Proper, binds, path, path-top, path-up}
 use Rattle.rules.specs.Values.{valueBy, isAt, below, seek, orSeen, seek-below}
 use Rattle.rules.specs.Store.{home}
-use Rattle.rules.specs.Calls.{deciderAt, valueAt, peekOf, peek-shows}
+use Rattle.rules.specs.Calls.{deciderAt, numberOf, valueAt, peekOf, peek-shows}
 use Rattle.layout.specs.Records.{vars, room, focus, blankCell, ProperCell, cellOf, bareC, nodeOf, kindN, parentN, varN, postN, storedN, topNode}
 use Rattle.layout.specs.Kinds.{within, byKind, isOut}
 use Rattle.layout.specs.Fields.{nodes, fieldsOf, Fit}
@@ -32,10 +32,6 @@ use Rattle.layout.specs.WalkLaws.{made-seen, made-room, focus-made, out-
 unfoldable pub binderOf : ℕ → Option ℕ
 binderOf zero = none
 binderOf (suc n) = some (suc n)
-
-abbrev pub numberOf : Option ℕ → ℕ
-numberOf none = 0
-numberOf (some n) = n
 
 pub binder-inner : (n : ℕ) → 1 ≤ n → binderOf n ≡ some n
 unfolding binderOf
@@ -58,6 +54,7 @@ not-at what (suc k) n d = ne-eqb (suc k) n (λ e. d (sym e))
 -- ---- what peek answers: the decider of x at a by its number, and the decider's own value as a proper bare cell
 pub record FoundAt (s : List ℕ) (a x : ℕ) (n : ℕ) (c : List ℕ) : Type 0 where
   pub by : binderOf n ≡ deciderAt (view s .tree) a x
+  pub made : IsMade s n
   pub value : asCell c ≡ valueAt (home (view s)) a x
   pub proper : ProperCell c
 
@@ -285,8 +282,8 @@ module _ (s : List ℕ) (ok : Sound s) where
       rw (binder-inner d l, mode) (stored-is d m)
 
   -- ---- so what is found is the deep rule's value
-  pub found-at : {a x n : ℕ} {c : List ℕ} → binderOf n ≡ deciderAt (view s .tree) a x → asCell c ≡ peekOf (view s) x (binderOf n) → ProperCell c → FoundAt s a x n c
-  found-at {a} {x} {n} {c} by e p = record { by = by; value = e ∙ ap (peekOf (view s) x) by ∙ peek-shows (view s) (sound-view s ok) a x; proper = p }
+  pub found-at : {a x n : ℕ} {c : List ℕ} → binderOf n ≡ deciderAt (view s .tree) a x → IsMade s n → asCell c ≡ peekOf (view s) x (binderOf n) → ProperCell c → FoundAt s a x n c
+  found-at {a} {x} {n} {c} by made e p = record { by = by; made = made; value = e ∙ ap (peekOf (view s) x) by ∙ peek-shows (view s) (sound-view s ok) a x; proper = p }
 
 -- the top has no parent
 pub top-up : (s : List ℕ) → Sound s → view s .tree .up 0 ≡ none

@@ -7,15 +7,15 @@ use Rattle.text.specs.Decimal.{tens, decimal, whole}
 use Rattle.print.specs.declared.Out.the-variants.{None, Number, Value}
 use Rattle.print.specs.Printed.{opLine, eventLine, badLine}
 
-pub op-4 : opLine (record { op = 4; code = 0; out = Number 0; moves = 3; events = 1 }) ≡ bytes "op=4 code=0 out=0 moves=3 events=1\n"
+pub op-4 : opLine (record { op = 4; code = 0; out = Number 0; moves = 3; events = 1 }) ≡ bytes "op=4 code=0 out=0 moves=3 events=1 by=none\n"
 unfolding opLine decimal tens
 op-4 = refl
 
-pub op-7 : opLine (record { op = 7; code = 0; out = Value (negsuc 0); moves = 0; events = 0 }) ≡ bytes "op=7 code=0 out=-1 moves=0 events=0\n"
+pub op-7 : opLine (record { op = 7; code = 0; out = Value (negsuc 0) 1; moves = 0; events = 0 }) ≡ bytes "op=7 code=0 out=-1 moves=0 events=0 by=1\n"
 unfolding opLine decimal whole tens
 op-7 = refl
 
-pub op-8 : opLine (record { op = 8; code = 6; out = None; moves = 0; events = 0 }) ≡ bytes "op=8 code=6 out=none moves=0 events=0\n"
+pub op-8 : opLine (record { op = 8; code = 6; out = None; moves = 0; events = 0 }) ≡ bytes "op=8 code=6 out=none moves=0 events=0 by=none\n"
 unfolding opLine decimal tens
 op-8 = refl
 

@@ -2,6 +2,7 @@
 -- Assumes nothing: these are definitions.
 use mathlib.Core.Bool.{Bool, true, false}
 use mathlib.Core.List.{List, _++_}
+use mathlib.Core.Option.{Option, none, some}
 use Prim.Native.Nat.{ℕ}
 use Rattle.text.specs.Words.{bytes}
 use Rattle.text.specs.Decimal.{decimal, whole}
@@ -13,11 +14,21 @@ use Rattle.print.specs.declared.Report.{Report}
 abbrev pub outText : Out → List ℕ
 outText None = bytes "none"
 outText (Number n) = decimal n
-outText (Value v) = whole v
+outText (Value v by) = whole v
 
 -- a word and a number behind it
 abbrev pub field : List ℕ → ℕ → List ℕ
 field w n = w ++ decimal n
+
+-- the last field (document 02, W2): the decider of a value, and none where the answer is no value
+abbrev pub byOf : Out → Option ℕ
+byOf None = none
+byOf (Number n) = none
+byOf (Value v by) = some by
+
+abbrev pub byText : Option ℕ → List ℕ
+byText none = bytes " by=none\n"
+byText (some n) = field (bytes " by=") n ++ bytes "\n"
 
 -- the line of an operation
 unfoldable pub opLine : Report → List ℕ
@@ -28,7 +39,7 @@ opLine r =
     ++ outText (r .out)
     ++ field (bytes " moves=") (r .moves)
     ++ field (bytes " events=") (r .events)
-    ++ bytes "\n"
+    ++ byText (byOf (r .out))
 
 -- the line of an event
 abbrev pub kindText : Bool → List ℕ

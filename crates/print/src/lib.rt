@@ -8,24 +8,24 @@ ghost use Prim.Native.Nat.{_+_, _≤_};
 ghost use mathlib.Core.List.{_++_};
 ghost use lib.ListN.{length};
 ghost use Rattle.text.specs.Decimal.{decimal};
-ghost use Rattle.print.specs.Printed.{field, outText, kindText, opLine, eventLine, badLine};
+ghost use Rattle.print.specs.Printed.{field, outText, byOf, byText, kindText, opLine, eventLine, badLine};
 ghost use Rattle.print.specs.Writing.{Wrote};
 
-// The longest line, with room for a further field.
+// The longest line.
 pub struct Print {}
 
 impl Print {
     pub const LINE: usize = 96;
 }
 
-// What a call answers: nothing on a refusal, else a number or a value.
+// What a call answers: nothing on a refusal, else a number, or a value and the number of its decider.
 pub enum Out {
     None,
     Number(u32),
-    Value(i32),
+    Value(i32, u32),
 }
 
-// What is printed of one operation: its number, the answer number, the answer, moves and events.
+// What is printed of one operation: its number, the answer number, the answer with its decider, moves and events.
 pub struct Report {
     pub op: u32,
     pub code: u32,
@@ -65,7 +65,22 @@ fn put_out(o: Out, out: &mut [u8], at: usize) -> usize
     match o {
         Out::None => put_text(b"none", out, at),
         Out::Number(n) => put_natural(n, out, at),
-        Out::Value(v) => put_whole(v, out, at),
+        Out::Value(v, _) => put_whole(v, out, at),
+    }
+}
+
+// The end of an operation's line: the decider of a value, or none.
+fn put_by(o: Out, out: &mut [u8], at: usize) -> usize
+    requires { ⌜ at + 15 ≤ length (now out) ⌝ }
+    ensures { λ r. ⌜ Wrote (now (out .entry)) at (byText (byOf o)) (now (out .exit)) r ⌝ }
+{
+    match o {
+        Out::None => put_text(b" by=none\n", out, at),
+        Out::Number(_) => put_text(b" by=none\n", out, at),
+        Out::Value(_, by) => {
+            let next = put_field(b" by=", by, out, at);
+            put_text(b"\n", out, next)
+        }
     }
 }
 
@@ -80,7 +95,7 @@ pub fn put_op(report: Report, out: &mut [u8; Print::LINE]) -> usize
     let d = put_out(o, out, c);
     let e = put_field(b" moves=", report.moves, out, d);
     let f = put_field(b" events=", report.events, out, e);
-    put_text(b"\n", out, f)
+    put_by(o, out, f)
 }
 
 // The line of one trace event: the thunk entered or left, and its place.

@@ -14,7 +14,7 @@ use Rattle.rules.specs.Values.{Cell, unbound, value}
 use Rattle.rules.specs.Store.{Deep, moveTo}
 use Rattle.rules.specs.Far.{far}
 use Rattle.rules.specs.Moves.{Event, parentOf, route, trace}
-use Rattle.rules.specs.Calls.{valueAt, setDeep, makeDeep}
+use Rattle.rules.specs.Calls.{valueAt, decidedBy, setDeep, makeDeep}
 use Rattle.rules.specs.Modes.{count}
 use Rattle.rules.specs.Refusals.{noVariable, noEnvironment, noValue, full, traceRoom, atTop, Row, row, lowest}
 
@@ -119,23 +119,23 @@ rows z room (goto a) d = environmentRow d a ∷ roomRow room (eventsOf (goto a) 
 rows z room back d = roomRow room (eventsOf back d) ∷ topRow d ∷ []
 rows z room (peek a x) d = variableRow z x ∷ environmentRow d a ∷ valueRow (d .peeked a x) ∷ []
 
--- ---- answers: done, with a number or a value and the moves made; or refused
+-- ---- answers: done, with a number, or a value and the number of its decider, and the moves made; or refused
 pub data Out : Type 0 where
   aNumber : ℕ → Out
-  aValue : ℤ → Out
+  aValue : ℤ → ℕ → Out
 
 pub data Answer : Type 0 where
   done : Out → ℕ → Answer
   refused : ℕ → Answer
 
--- document 01's numbers for an answer: the code, the answer itself, the moves
+-- document 01's numbers for an answer: the code, the answer itself, the moves; of a value its decider (document 02, W2)
 abbrev pub codeOf : Answer → ℕ
 codeOf (done o m) = 0
 codeOf (refused n) = n
 
 abbrev pub wholeOf : Out → ℤ
 wholeOf (aNumber n) = pos n
-wholeOf (aValue v) = v
+wholeOf (aValue v by) = v
 
 abbrev pub outOf : Answer → ℤ
 outOf (done o m) = wholeOf o
@@ -144,6 +144,14 @@ outOf (refused n) = pos 0
 abbrev pub movesOf : Answer → ℕ
 movesOf (done o m) = m
 movesOf (refused n) = 0
+
+abbrev pub decidedIn : Out → Option ℕ
+decidedIn (aNumber n) = none
+decidedIn (aValue v by) = some by
+
+abbrev pub byOf : Answer → Option ℕ
+byOf (done o m) = decidedIn o
+byOf (refused n) = none
 
 -- the value of a cell that has one
 abbrev pub valueIn : Cell → ℤ
@@ -157,12 +165,12 @@ switchAnswer d a = done (aNumber a) (far (d .tree) (d .focus) a)
 unfoldable pub answerOf : Size → Call → Shown → Answer
 answerOf z (bind x v) d = done (aNumber (nextNumber z (d .tree))) 0
 answerOf z (wind p q) d = done (aNumber (nextNumber z (d .tree))) 0
-answerOf z (look x) d = done (aValue (valueIn (d .looked x))) 0
+answerOf z (look x) d = done (aValue (valueIn (d .looked x)) (decidedBy (d .tree) (d .focus) x)) 0
 answerOf z (set x v) d = done (aNumber (d .focus)) 0
 answerOf z here d = done (aNumber (d .focus)) 0
 answerOf z (goto a) d = switchAnswer d a
 answerOf z back d = switchAnswer d (backTo d)
-answerOf z (peek a x) d = done (aValue (valueIn (d .peeked a x))) 0
+answerOf z (peek a x) d = done (aValue (valueIn (d .peeked a x)) (decidedBy (d .tree) a x)) 0
 
 -- ---- what a call that nothing refuses does to the deep store
 unfoldable pub changed : Size → Call → Deep → Deep

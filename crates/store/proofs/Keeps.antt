@@ -19,7 +19,7 @@ use Rattle.rules.specs.Values.{Cell, unbound, value}
 use Rattle.rules.specs.Store.{home, goto}
 use Rattle.rules.specs.Moves.{Move, parentOf, route, route-length, trace}
 use Rattle.rules.specs.Route.{route-self}
-use Rattle.rules.specs.Calls.{valueAt, look-right, home-set, make, home-make, make-own, make-rest}
+use Rattle.rules.specs.Calls.{deciderAt, decidedBy, valueAt, look-right, home-set, make, home-make, make-own, make-rest}
 use Rattle.rules.specs.Refusals.{setup}
 use Rattle.rules.specs.Demands.{goto-switches}
 use Rattle.rules.specs.Effects.{made-node, set-done}
@@ -37,13 +37,13 @@ use Rattle.layout.specs.Events.{told}
 use Rattle.layout.specs.Laws.{cell-in}
 use Rattle.layout.specs.SoundLaws.{sound-view}
 use Rattle.layout.specs.WalkLaws.{made-seen, focus-made}
-use Rattle.layout.specs.Reading.{FoundAt, top-up, up-is}
+use Rattle.layout.specs.Reading.{binderOf, number-is, FoundAt, top-up, up-is}
 use Rattle.layout.specs.OpenLaws.{opens}
 use Rattle.layout.specs.GrowLaws.{set-becomes, bind-becomes, wind-becomes, can-grow, is-binding, is-wind}
 use Rattle.store.specs.declared.Answer.the-variants.{Opened, Number, Made, Switched, Setup, Damaged, NoVariable, NoEnvironment, Unbound, Full, TraceRoom, Top}
-use Rattle.store.specs.Answers.{Numbers, refusal, numbers, ofCell}
+use Rattle.store.specs.Answers.{Numbers, refusal, seen, numbers, ofCell}
 use Rattle.store.specs.Tables.{Row, row, From, Lowest, nothing-applies, not-this, this, add-last}
-use Rattle.store.specs.Promises.{meaning, at, Answers, damagedRow, variableRow, environmentRow, valueRow, fullRow, roomRow, topRow, roomFor, entering, parentAt, Openable, Switches, LookPromise, PeekPromise, HerePromise, SetPromise, BindPromise, WindPromise, GotoPromise, BackPromise, OpenPromise}
+use Rattle.store.specs.Promises.{meaning, at, byAt, Answers, Shows, damagedRow, variableRow, environmentRow, valueRow, fullRow, roomRow, topRow, roomFor, entering, parentAt, Openable, Switches, LookPromise, PeekPromise, HerePromise, SetPromise, BindPromise, WindPromise, GotoPromise, BackPromise, OpenPromise}
 
 -- ---- row by row: this one applies, and nothing is changed; this one does not; none is left, and the call is done
 module _ {rs : List Row} {Same Done : Type 0} where
@@ -73,20 +73,24 @@ a-value c e = rw (ne-eqb _ _ e)
 pub bound : {c : Cell} {v : ℤ} → c ≡ value v → c ≡ unbound → ⊥
 bound e f = let z : _≡_ {A = ℕ} 0 1 = cc in omega arith
 
--- what a cell answers, at the last row of look and peek
-module _ (s : List ℕ) (a x : ℕ) (c : List ℕ) (is : at s a x ≡ asCell c) where
+-- what a cell and its decider answer, at the last row of look and peek
+module _ (s : List ℕ) (a x : ℕ) (c : List ℕ) (n : ℕ) (is : at s a x ≡ asCell c) (decides : binderOf n ≡ deciderAt (view s .tree) a x) where
   abbrev Shown : Numbers → Type 0
-  Shown n = Answers (valueRow s a x ∷ []) n (Unit {0}) ((v : ℤ) × (n ≡ record { code = 0; out = v; moves = 0; events = 0 }) × (at s a x ≡ value v))
+  Shown k = Answers (valueRow s a x ∷ []) k (Unit {0}) (Shows s a x k)
 
-  pub shows : Shown (numbers (ofCell c))
+  by-is : n ≡ byAt s a x
+  unfolding byAt decidedBy meaning home
+  by-is = number-is n decides
+
+  pub shows : Shown (numbers (ofCell c n))
   unfolding numbers ofCell
   shows = go (eqb (getD c 0 0) 0) refl
     where
-      go : (b : Bool) → eqb (getD c 0 0) 0 ≡ b → Shown (numbers (ofCell c))
+      go : (b : Bool) → eqb (getD c 0 0) 0 ≡ b → Shown (numbers (ofCell c n))
       go true e = rw e (give (valueRow s a x) (is ∙ no-value c (eqb-true _ _ e)) (omega arith) tt tt)
       go false e =
           let v : at s a x ≡ value (toZ w32 (bitsC c)) = is ∙ a-value c (eqb-false _ _ e) in
-          rw e (skip (bound v) (finish refl (toZ w32 (bitsC c), refl, v)))
+          rw e (skip (bound v) (finish refl (toZ w32 (bitsC c), ap (seen (toZ w32 (bitsC c))) by-is, v)))
 
 -- ---- here and look
 pub here-damaged : (s : List ℕ) → (Sound s → ⊥) → HerePromise s s (numbers Damaged)
@@ -95,7 +99,7 @@ here-damaged s no-store = record { same = refl; answers = give (damagedRow s) no
 
 pub here-done : (s : List ℕ) → Sound s → (f : ℕ) → f ≡ focus s → HerePromise s s (numbers (Number f))
 unfolding numbers
-here-done s ok f e = record { same = refl; answers = skip (λ h. h ok) (finish refl (ap (λ (g : ℕ). record { code = 0; out = pos g; moves = 0; events = 0 }) e)) }
+here-done s ok f e = record { same = refl; answers = skip (λ h. h ok) (finish refl (ap (λ (g : ℕ). record { code = 0; out = pos g; moves = 0; events = 0; by = none }) e)) }
 
 module _ (s : List ℕ) (x : ℕ) where
   pub look-damaged : (Sound s → ⊥) → LookPromise s x s (numbers Damaged)
@@ -106,8 +110,8 @@ module _ (s : List ℕ) (x : ℕ) where
   unfolding numbers
   look-unknown ok l = record { same = refl; answers = skip (λ h. h ok) (give (variableRow s x) l (omega arith) (omega arith, tt) tt) }
 
-  pub look-shown : Sound s → x < vars s → LookPromise s x s (numbers (ofCell (bareC (cellOf s x))))
-  look-shown ok l = record { same = refl; answers = skip (λ h. h ok) (skip (λ h. omega arith) (shows s (focus s) x (bareC (cellOf s x)) (at-focus s ok x l))) }
+  pub look-shown : Sound s → x < vars s → (n : ℕ) → binderOf n ≡ deciderAt (view s .tree) (focus s) x → LookPromise s x s (numbers (ofCell (bareC (cellOf s x)) n))
+  look-shown ok l n by = record { same = refl; answers = skip (λ h. h ok) (skip (λ h. omega arith) (shows s (focus s) x (bareC (cellOf s x)) n (at-focus s ok x l) by)) }
 
 -- ---- set
 module _ (s : List ℕ) (x : ℕ) (v : ℤ) where
@@ -130,7 +134,7 @@ module _ (s : List ℕ) (x : ℕ) (v : ℤ) where
       let b = set-becomes s ok x l v fits in
       record {
         answers = skip (λ h. h ok) (skip (λ h. omega arith) (skip (bound (at-focus s ok x l ∙ a-value _ e)) (finish refl (record {
-          answer = ap (λ (g : ℕ). record { code = 0; out = pos g; moves = 0; events = 0 }) same;
+          answer = ap (λ (g : ℕ). record { code = 0; out = pos g; moves = 0; events = 0; by = none }) same;
           sound = b .sound;
           kept = b .kept;
           effect = rw (b .seen, home-set x (value v) (view s) (sound-view s ok)) (set-done x (value v) (home (view s)));
@@ -159,7 +163,7 @@ module _ (s : List ℕ) (x : ℕ) (v : ℤ) where
       let means = ap home (b .seen) ∙ home-make (value v) (view s) (sound-view s ok) can in
       record {
         answers = skip (λ h. h ok) (skip (λ h. omega arith) (skip space (finish refl (record {
-          answer = ap (λ (g : ℕ). record { code = 0; out = pos g; moves = 0; events = 0 }) same;
+          answer = ap (λ (g : ℕ). record { code = 0; out = pos g; moves = 0; events = 0; by = none }) same;
           sound = b .sound;
           kept = b .kept;
           new = rw means (made-node (value v) (home (view s)) can);
@@ -182,10 +186,10 @@ module _ (s : List ℕ) (a x : ℕ) where
   unfolding numbers
   peek-unmade ok l h = record { same = refl; answers = skip (λ h. h ok) (skip (λ h. omega arith) (give (environmentRow s a) h (omega arith) (omega arith, tt) tt)) }
 
-  pub peek-shown : Sound s → x < vars s → IsMade s a → {n : ℕ} {c : List ℕ} → FoundAt s a x n c → PeekPromise s a x s (numbers (ofCell c))
+  pub peek-shown : Sound s → x < vars s → IsMade s a → {n : ℕ} {c : List ℕ} → FoundAt s a x n c → PeekPromise s a x s (numbers (ofCell c n))
   unfolding at meaning
   peek-shown ok l made {n} {c} found =
-      record { same = refl; answers = skip (λ h. h ok) (skip (λ h. omega arith) (skip (λ h. h made) (shows s a x c (sym (found .value))))) }
+      record { same = refl; answers = skip (λ h. h ok) (skip (λ h. omega arith) (skip (λ h. h made) (shows s a x c n (sym (found .value)) (found .by)))) }
 
 -- ---- wind
 module _ (s t : List ℕ) (p q : ℕ) where
@@ -238,7 +242,7 @@ module _ (s t : List ℕ) (a : ℕ) where
       skip (λ h. omega arith) (finish refl (record {
         moves = ms;
         events = eventsTo s a;
-        answer = ap (λ (m : ℕ). record { code = 0; out = pos a; moves = m; events = length (eventsTo s a) }) (sym count);
+        answer = ap (λ (m : ℕ). record { code = 0; out = pos a; moves = m; events = length (eventsTo s a); by = none }) (sym count);
         sound = b .sound;
         kept = b .kept;
         switched = rw (b .seen, count) w;

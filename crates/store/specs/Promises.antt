@@ -13,7 +13,7 @@ use Rattle.rules.specs.Tree.{What, binding, wind}
 use Rattle.rules.specs.Values.{Cell, unbound, value}
 use Rattle.rules.specs.Store.{Deep, home}
 use Rattle.rules.specs.Moves.{Move, Event, parentOf}
-use Rattle.rules.specs.Calls.{valueAt}
+use Rattle.rules.specs.Calls.{valueAt, decidedBy}
 use Rattle.rules.specs.Refusals.{setup, damaged, noVariable, noEnvironment, noValue, full, traceRoom, atTop}
 use Rattle.rules.specs.Effects.{NewNode, SetTo}
 use Rattle.rules.specs.Demands.{Switched}
@@ -26,7 +26,7 @@ use Rattle.layout.specs.Becomes.{Kept}
 use Rattle.layout.specs.Opening.{OpenFits}
 use Rattle.layout.specs.Events.{told}
 use Rattle.layout.specs.Events.{eventsTo}
-use Rattle.store.specs.Answers.{Numbers, refusal}
+use Rattle.store.specs.Answers.{Numbers, refusal, seen}
 use Rattle.store.specs.Tables.{Row, row, Lowest}
 
 -- what a store means: the deep store of TR397's Figure 2, with the top values
@@ -36,6 +36,10 @@ meaning s = home (view s)
 -- the value of x at a
 unfoldable pub at : List ℕ → ℕ → ℕ → Cell
 at s a x = valueAt (meaning s) a x
+
+-- the number of the environment whose binding decides x at a, by the deep rule; 0 for the top value
+unfoldable pub byAt : List ℕ → ℕ → ℕ → ℕ
+byAt s a x = decidedBy (meaning s .tree) a x
 
 -- how many events a trace has room for
 unfoldable pub roomFor : List ℕ → ℕ
@@ -49,7 +53,11 @@ pub record Answers (rows : List Row) (n : Numbers) (Same Done : Type 0) : Type 0
 
 -- done, with this answer, these moves and so many events
 abbrev pub Told : Numbers → ℤ → ℕ → ℕ → Type 0
-Told n o m e = n ≡ record { code = 0; out = o; moves = m; events = e }
+Told n o m e = n ≡ record { code = 0; out = o; moves = m; events = e; by = none }
+
+-- done, with the value of x at a and the number of its decider
+abbrev pub Shows : List ℕ → ℕ → ℕ → Numbers → Type 0
+Shows s a x n = (v : ℤ) × (n ≡ seen v (byAt s a x)) × (at s a x ≡ value v)
 
 -- ---- the conditions
 abbrev pub damagedRow : List ℕ → Row
@@ -96,14 +104,14 @@ pub record Opened (v n : ℕ) (tops s s′ : List ℕ) (out : Numbers) : Type 0 
 pub record OpenPromise (v n : ℕ) (tops s s′ : List ℕ) (out : Numbers) : Type 0 where
   pub answers : Answers (row setup (Openable v n tops s → ⊥) ∷ []) out (s′ ≡ s) (Opened v n tops s s′ out)
 
--- ---- look, peek, here: a value or the focus, and no byte of the store changed
+-- ---- look, peek, here: a value with its decider or the focus, and no byte of the store changed
 pub record LookPromise (s : List ℕ) (x : ℕ) (s′ : List ℕ) (n : Numbers) : Type 0 where
   pub same : s′ ≡ s
-  pub answers : Answers (damagedRow s ∷ variableRow s x ∷ valueRow s (focus s) x ∷ []) n (Unit {0}) ((v : ℤ) × (Told n v 0 0) × (at s (focus s) x ≡ value v))
+  pub answers : Answers (damagedRow s ∷ variableRow s x ∷ valueRow s (focus s) x ∷ []) n (Unit {0}) (Shows s (focus s) x n)
 
 pub record PeekPromise (s : List ℕ) (a x : ℕ) (s′ : List ℕ) (n : Numbers) : Type 0 where
   pub same : s′ ≡ s
-  pub answers : Answers (damagedRow s ∷ variableRow s x ∷ environmentRow s a ∷ valueRow s a x ∷ []) n (Unit {0}) ((v : ℤ) × (Told n v 0 0) × (at s a x ≡ value v))
+  pub answers : Answers (damagedRow s ∷ variableRow s x ∷ environmentRow s a ∷ valueRow s a x ∷ []) n (Unit {0}) (Shows s a x n)
 
 pub record HerePromise (s s′ : List ℕ) (n : Numbers) : Type 0 where
   pub same : s′ ≡ s

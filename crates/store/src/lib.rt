@@ -31,6 +31,12 @@ pub struct New {
     pub events: u16,
 }
 
+// A value, and the number of the environment whose binding decides it, 0 for the top value.
+pub struct Seen {
+    pub value: i32,
+    pub by: u16,
+}
+
 // A switch: the new focus, the moves and the number of events.
 pub struct Switch {
     pub focus: u16,
@@ -43,7 +49,7 @@ pub enum Answer {
     Opened,
     Number(u16),
     Made(New),
-    Value(i32),
+    Value(Seen),
     Switched(Switch),
     Setup,
     Damaged,
@@ -55,14 +61,18 @@ pub enum Answer {
     Top,
 }
 
-// A cell as an answer: its value, or that it has none.
-fn answered(c: [u8; Store::BARE]) -> Answer
-    ensures { λ r. ⌜ r ≡ ofCell c ⌝ }
+// A cell as an answer: its value with the decider, or that it has none.
+fn answered(c: [u8; Store::BARE], by: usize) -> Answer
+    requires { ⌜ by < 65536 ⌝ }
+    ensures { λ r. ⌜ r ≡ ofCell c by ⌝ }
 {
     if c[0] == 0 {
         return Answer::Unbound;
     }
-    Answer::Value(number::value_of(c))
+    Answer::Value(Seen {
+        value: number::value_of(c),
+        by: by as u16,
+    })
 }
 
 // The focus.
@@ -75,7 +85,7 @@ pub fn here(s: &[u8]) -> Answer
     Answer::Number(records::focus_of(s) as u16)
 }
 
-// The value of x at the focus.
+// The value of x at the focus, and its decider.
 pub fn look(s: &[u8], x: u32) -> Answer
     ensures { λ r. ⌜ LookPromise (now (s .entry)) x (now (s .exit)) (numbers r) ⌝ }
 {
@@ -86,7 +96,9 @@ pub fn look(s: &[u8], x: u32) -> Answer
     if records::vars_of(s) <= y {
         return Answer::NoVariable;
     }
-    answered(records::bare_of(records::cell(s, y)))
+    let f = records::focus_of(s);
+    let by = read::decider_of(s, f, y);
+    answered(records::bare_of(records::cell(s, y)), by)
 }
 
 // The cell of x takes the value v.
@@ -149,7 +161,7 @@ pub fn bind(s: &mut [u8], x: u32, v: i32) -> Answer
     bind_at(s, y, v)
 }
 
-// The value of x at a, with nothing moved.
+// The value of x at a, and its decider, with nothing moved.
 pub fn peek(s: &[u8], a: u32, x: u32) -> Answer
     ensures { λ r. ⌜ PeekPromise (now (s .entry)) a x (now (s .exit)) (numbers r) ⌝ }
 {
@@ -166,7 +178,7 @@ pub fn peek(s: &[u8], a: u32, x: u32) -> Answer
     }
     let found = read::find(s, b, y);
     let c = found.cell;
-    answered(c)
+    answered(c, found.by)
 }
 
 // A wind and its one event, entering p at the focus.

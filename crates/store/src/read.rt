@@ -38,7 +38,7 @@ fn binds(s: &[u8], n: usize, x: usize) -> bool
 }
 
 // From a up to the first node that binds x, and 0 where there is none.
-fn decider_of(s: &[u8], a: usize, x: usize) -> usize
+pub(crate) fn decider_of(s: &[u8], a: usize, x: usize) -> usize
     requires { ⌜ Sound (now s) × IsMade (now s) a ⌝ }
     ensures { λ r. ⌜ (binderOf r ≡ deciderAt (view (now (s .entry)) .tree) a x) × IsMade (now (s .entry)) r ⌝ }
 {

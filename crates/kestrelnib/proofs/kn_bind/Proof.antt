@@ -1,6 +1,7 @@
 -- `kn_bind` hands over: what it answers are the numbers of the answer of `bind`. Assumes nothing.
 use mir.Syntax.{w32}
 use mir.ValLaws.{toZ-ofZ}
+use Rattle.store.specs.Answers.{numbers}
 use borrow.Author.Needs.{needs}
 use Rattle.kestrelnib.proofs.kn_bind.Statement.{statement}
 use Rattle.kestrelnib.proofs.kn_bind.Tie as tie
@@ -17,7 +18,8 @@ same-length c = search needs
 returns : tie.Need-returns
 returns c =
     let st = c .before .before .before .before .before .before in
-    rw (c .numbered .ensures) (rw (toZ-ofZ w32 (st .args .v) (st .fits .v)) at (c .before .before .before .bind .ensures))
+    let call = c .before .before .before .bind in
+    (numbers (call .result), c .numbered .ensures, rw (toZ-ofZ w32 (st .args .v) (st .fits .v)) at (call .ensures))
 
 pub kn-bind-spec : {M : Type 1} → statement M
 kn-bind-spec = tie.close (tie.spec bind-requires numbered-requires same-length returns)

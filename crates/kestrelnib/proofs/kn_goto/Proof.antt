@@ -1,4 +1,5 @@
 -- `kn_goto` hands over: what it answers are the numbers of the answer of `goto`. Assumes nothing.
+use Rattle.store.specs.Answers.{numbers}
 use borrow.Author.Needs.{needs}
 use Rattle.kestrelnib.proofs.kn_goto.Statement.{statement}
 use Rattle.kestrelnib.proofs.kn_goto.Tie as tie
@@ -16,7 +17,7 @@ same-length-2 : tie.Need-same-length-2
 same-length-2 c = search needs
 
 returns : tie.Need-returns
-returns c = rw (c .numbered .ensures) (c .before .before .before .before .before .goto .ensures)
+returns c = let call = c .before .before .before .before .before .goto in (numbers (call .result), c .numbered .ensures, call .ensures)
 
 pub kn-goto-spec : {M : Type 1} → statement M
 kn-goto-spec =

@@ -1,4 +1,5 @@
 -- `kn_peek` hands over: what it answers are the numbers of the answer of `peek`. Assumes nothing.
+use Rattle.store.specs.Answers.{numbers}
 use borrow.Author.Needs.{needs}
 use Rattle.kestrelnib.proofs.kn_peek.Statement.{statement}
 use Rattle.kestrelnib.proofs.kn_peek.Tie as tie
@@ -10,7 +11,7 @@ numbered-requires : tie.Need-numbered-requires
 numbered-requires c κs = search needs
 
 returns : tie.Need-returns
-returns c = rw (c .numbered .ensures) (c .before .peek .ensures)
+returns c = (numbers (c .before .peek .result), c .numbered .ensures, c .before .peek .ensures)
 
 pub kn-peek-spec : {M : Type 1} → statement M
 kn-peek-spec = tie.close (tie.spec peek-requires numbered-requires returns)

@@ -1,6 +1,7 @@
 -- `kn_set` hands over: what it answers are the numbers of the answer of `set`. Assumes nothing.
 use mir.Syntax.{w32}
 use mir.ValLaws.{toZ-ofZ}
+use Rattle.store.specs.Answers.{numbers}
 use borrow.Author.Needs.{needs}
 use Rattle.kestrelnib.proofs.kn_set.Statement.{statement}
 use Rattle.kestrelnib.proofs.kn_set.Tie as tie
@@ -17,7 +18,8 @@ same-length c = search needs
 returns : tie.Need-returns
 returns c =
     let st = c .before .before .before .before .before .before in
-    rw (c .numbered .ensures) (rw (toZ-ofZ w32 (st .args .v) (st .fits .v)) at (c .before .before .before .set .ensures))
+    let call = c .before .before .before .set in
+    (numbers (call .result), c .numbered .ensures, rw (toZ-ofZ w32 (st .args .v) (st .fits .v)) at (call .ensures))
 
 pub kn-set-spec : {M : Type 1} → statement M
 kn-set-spec = tie.close (tie.spec set-requires numbered-requires same-length returns)

@@ -1,4 +1,5 @@
 -- `kn_wind` hands over: what it answers are the numbers of the answer of `wind`. Assumes nothing.
+use Rattle.store.specs.Answers.{numbers}
 use borrow.Author.Needs.{needs}
 use Rattle.kestrelnib.proofs.kn_wind.Statement.{statement}
 use Rattle.kestrelnib.proofs.kn_wind.Tie as tie
@@ -16,7 +17,7 @@ same-length-2 : tie.Need-same-length-2
 same-length-2 c = search needs
 
 returns : tie.Need-returns
-returns c = rw (c .numbered .ensures) (c .before .before .before .before .before .wind .ensures)
+returns c = let call = c .before .before .before .before .before .wind in (numbers (call .result), c .numbered .ensures, call .ensures)
 
 pub kn-wind-spec : {M : Type 1} → statement M
 kn-wind-spec =

@@ -2,8 +2,9 @@
 use mir.Syntax.{w32}
 use mir.ValLaws.{toZ-ofZ}
 use mathlib.Core.Path.{sym, ap, _∙_}
+use Rattle.store.specs.declared.Answer.{Answer}
 use Rattle.store.specs.Answers.{numbers}
-use Rattle.kestrelnib.specs.Face.{told}
+use Rattle.kestrelnib.specs.Face.{replyOf}
 use borrow.Author.Needs.{needs}
 use Rattle.kestrelnib.proofs.numbered.Statement.{statement}
 use Rattle.kestrelnib.proofs.numbered.Tie as tie
@@ -87,58 +88,59 @@ refused-requires-8 : tie.Need-refused-requires-8
 refused-requires-8 c κs = search needs
 
 returns : tie.Need-returns
-unfolding told numbers
-returns c = ap told (c .numbers-of .ensures) ∙ ap numbers (sym (c .before .enum-told .given .1))
+unfolding replyOf numbers
+returns c = c .numbers-of .ensures ∙ ap (λ (a : Answer). replyOf (numbers a)) (sym (c .before .enum-told .given .1))
 
 returns-2 : tie.Need-returns-2
-unfolding told numbers
-returns-2 c = ap told (c .numbers-of2 .ensures) ∙ ap numbers (sym (c .before .before .a .given .1))
+unfolding replyOf numbers
+returns-2 c = c .numbers-of2 .ensures ∙ ap (λ (a : Answer). replyOf (numbers a)) (sym (c .before .before .a .given .1))
 
 returns-3 : tie.Need-returns-3
-unfolding told numbers
-returns-3 c = ap told (c .numbers-of3 .ensures) ∙ ap numbers (sym (c .before .before .a2 .given .1))
+unfolding replyOf numbers
+returns-3 c = c .numbers-of3 .ensures ∙ ap (λ (a : Answer). replyOf (numbers a)) (sym (c .before .before .a2 .given .1))
 
 returns-4 : tie.Need-returns-4
-unfolding told numbers
+unfolding replyOf numbers
 returns-4 c =
-    let v = c .before .before .a3 .given .0 .0 in
-    ap told (c .value-of .ensures) ∙ rw (toZ-ofZ w32 v (record { sfits = c .before .known-told3 .given .0 .1 })) (ap numbers (sym (c .before .before .a3 .given .1)))
+    let told = c .before .before .before .a3 .given in
+    let value = told .0 .0 .value in
+    c .value-of .ensures ∙ rw (toZ-ofZ w32 value (record { sfits = c .before .struct-told .given .0 .1 })) (ap (λ (a : Answer). replyOf (numbers a)) (sym (told .1)))
 
 returns-5 : tie.Need-returns-5
-unfolding told numbers
-returns-5 c = ap told (c .numbers-of4 .ensures) ∙ ap numbers (sym (c .before .before .a4 .given .1))
+unfolding replyOf numbers
+returns-5 c = c .numbers-of4 .ensures ∙ ap (λ (a : Answer). replyOf (numbers a)) (sym (c .before .before .a4 .given .1))
 
 returns-6 : tie.Need-returns-6
-unfolding told numbers
-returns-6 c = ap told (c .refused .ensures) ∙ ap numbers (sym (c .before .enum-told2 .given .1))
+unfolding replyOf numbers
+returns-6 c = c .refused .ensures ∙ ap (λ (a : Answer). replyOf (numbers a)) (sym (c .before .enum-told2 .given .1))
 
 returns-7 : tie.Need-returns-7
-unfolding told numbers
-returns-7 c = ap told (c .refused2 .ensures) ∙ ap numbers (sym (c .before .enum-told3 .given .1))
+unfolding replyOf numbers
+returns-7 c = c .refused2 .ensures ∙ ap (λ (a : Answer). replyOf (numbers a)) (sym (c .before .enum-told3 .given .1))
 
 returns-8 : tie.Need-returns-8
-unfolding told numbers
-returns-8 c = ap told (c .refused3 .ensures) ∙ ap numbers (sym (c .before .enum-told4 .given .1))
+unfolding replyOf numbers
+returns-8 c = c .refused3 .ensures ∙ ap (λ (a : Answer). replyOf (numbers a)) (sym (c .before .enum-told4 .given .1))
 
 returns-9 : tie.Need-returns-9
-unfolding told numbers
-returns-9 c = ap told (c .refused4 .ensures) ∙ ap numbers (sym (c .before .enum-told5 .given .1))
+unfolding replyOf numbers
+returns-9 c = c .refused4 .ensures ∙ ap (λ (a : Answer). replyOf (numbers a)) (sym (c .before .enum-told5 .given .1))
 
 returns-10 : tie.Need-returns-10
-unfolding told numbers
-returns-10 c = ap told (c .refused5 .ensures) ∙ ap numbers (sym (c .before .enum-told6 .given .1))
+unfolding replyOf numbers
+returns-10 c = c .refused5 .ensures ∙ ap (λ (a : Answer). replyOf (numbers a)) (sym (c .before .enum-told6 .given .1))
 
 returns-11 : tie.Need-returns-11
-unfolding told numbers
-returns-11 c = ap told (c .refused6 .ensures) ∙ ap numbers (sym (c .before .enum-told7 .given .1))
+unfolding replyOf numbers
+returns-11 c = c .refused6 .ensures ∙ ap (λ (a : Answer). replyOf (numbers a)) (sym (c .before .enum-told7 .given .1))
 
 returns-12 : tie.Need-returns-12
-unfolding told numbers
-returns-12 c = ap told (c .refused7 .ensures) ∙ ap numbers (sym (c .before .enum-told8 .given .1))
+unfolding replyOf numbers
+returns-12 c = c .refused7 .ensures ∙ ap (λ (a : Answer). replyOf (numbers a)) (sym (c .before .enum-told8 .given .1))
 
 returns-13 : tie.Need-returns-13
-unfolding told numbers
-returns-13 c = ap told (c .refused8 .ensures) ∙ ap numbers (sym (c .before .enum-told9 .given .1))
+unfolding replyOf numbers
+returns-13 c = c .refused8 .ensures ∙ ap (λ (a : Answer). replyOf (numbers a)) (sym (c .before .enum-told9 .given .1))
 
 pub numbered-spec : {M : Type 1} → statement M
 numbered-spec =

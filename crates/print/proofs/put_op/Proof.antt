@@ -38,19 +38,16 @@ slice-aggregate-put-field-4 c = search needs
 put-field-requires-4 : tie.Need-put-field-requires-4
 put-field-requires-4 c κs = search needs
 
-slice-aggregate-put-text-2 : tie.Need-slice-aggregate-put-text-2
-slice-aggregate-put-text-2 c = search needs
-
-put-text-requires-2 : tie.Need-put-text-requires-2
-put-text-requires-2 c κs = search needs
+put-by-requires : tie.Need-put-by-requires
+put-by-requires c κs = search needs
 
 returns : tie.Need-returns
 unfolding opLine
 returns c =
-    let w = wrote-more (search needs) (c .before .before .before .before .before .before .before .before .before .before .before .before .before .before .before .before .before .put-field .ensures .0) (c .before .before .before .before .before .before .before .before .before .before .before .before .before .before .put-field2 .ensures .0) in
-    let x = wrote-more (search needs) (wrote-more (search needs) w (c .before .before .before .before .before .before .before .before .before .before .before .put-text .ensures)) (c .before .before .before .before .before .before .before .before .before .put-out .ensures .0) in
-    let y = wrote-more (search needs) (wrote-more (search needs) x (c .before .before .before .before .before .before .put-field3 .ensures .0)) (c .before .before .before .put-field4 .ensures .0) in
-    wrote-more (search needs) y (c .put-text2 .ensures)
+    let w = wrote-more (search needs) (c .before .before .before .before .before .before .before .before .before .before .before .before .before .before .before .before .put-field .ensures .0) (c .before .before .before .before .before .before .before .before .before .before .before .before .before .put-field2 .ensures .0) in
+    let x = wrote-more (search needs) (wrote-more (search needs) w (c .before .before .before .before .before .before .before .before .before .before .put-text .ensures)) (c .before .before .before .before .before .before .before .before .put-out .ensures .0) in
+    let y = wrote-more (search needs) (wrote-more (search needs) x (c .before .before .before .before .before .put-field3 .ensures .0)) (c .before .before .put-field4 .ensures .0) in
+    wrote-more (search needs) y (c .put-by .ensures)
 
 pub put-op-spec : {M : Type 1} → statement M
 put-op-spec =
@@ -67,6 +64,5 @@ put-op-spec =
     put-field-requires-3
     slice-aggregate-put-field-4
     put-field-requires-4
-    slice-aggregate-put-text-2
-    put-text-requires-2
+    put-by-requires
     returns)

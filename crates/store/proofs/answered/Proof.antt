@@ -1,4 +1,5 @@
 use mathlib.Core.Path.{ap, _∙_}
+use lib.IntN.{ℤ}
 use mir.Syntax.{w32}
 use mir.ValLaws.{toZ-ofZ}
 use borrow.Author.Tests.{eq-eqb, ne-eqb}
@@ -18,9 +19,14 @@ returns c = rw (eq-eqb _ _ (c .if1 .taken))
 value-of-requires : tie.Need-value-of-requires
 value-of-requires c κs = search needs
 
+cast-t10 : tie.Need-cast-t10
+cast-t10 c = search needs
+
 returns-2 : tie.Need-returns-2
 unfolding ofCell
-returns-2 c = rw (ne-eqb _ _ (c .before .if1 .left)) (ap Value (toZ-ofZ w32 (c .value-of .result) (record { sfits = c .value-of .ok }) ∙ c .value-of .ensures))
+returns-2 c =
+    let value = toZ-ofZ w32 (c .value-of .result) (record { sfits = c .value-of .ok }) ∙ c .value-of .ensures in
+    rw (ne-eqb _ _ (c .before .if1 .left)) (ap (λ (v : ℤ). Value (record { value = v; by = c .before .before .args .by })) value)
 
 pub answered-spec : {M : Type 1} → statement M
-answered-spec = tie.close (tie.spec array-read-if1 returns value-of-requires returns-2)
+answered-spec = tie.close (tie.spec array-read-if1 returns value-of-requires cast-t10 returns-2)

@@ -1,10 +1,12 @@
--- `look` keeps its promise: the cell of x shows the value at the focus. Assumes nothing.
+-- `look` keeps its promise: the cell of x shows the value at the focus, and the climb from there finds its decider. Assumes nothing.
 use mathlib.Core.Path.{ap, _∙_}
-use Prim.Native.Nat.{_<_}
+use mathlib.Core.List.{List}
+use Prim.Native.Nat.{ℕ, _<_}
 use native.Mathlib.Omega.{arith}
 use Rattle.layout.specs.Records.{vars}
 use Rattle.layout.specs.Sound.{Sound}
 use Rattle.layout.specs.SoundLaws.{sound-fit}
+use Rattle.layout.specs.WalkLaws.{made-room, focus-made}
 use Rattle.layout.specs.CheckLaws.{held, refuted}
 use Rattle.layout.specs.Records.{bareC}
 use Rattle.store.specs.Answers.{ofCell}
@@ -33,19 +35,29 @@ vars-of-requires c κs = let fit = sound-fit _ (ok c) in omega (arith, fit .long
 returns-2 : tie.Need-returns-2
 returns-2 c = look-unknown _ _ (ok (c .before .before)) (omega (arith, c .before .vars-of .ensures .0))
 
+focus-of-requires : tie.Need-focus-of-requires
+focus-of-requires c κs = let fit = sound-fit _ (ok (c .before .before)) in omega (arith, fit .long)
+
+decider-of-requires : tie.Need-decider-of-requires
+decider-of-requires c κs = let store = ok (c .before .before .before) in (store, rw (c .focus-of .ensures .0) (focus-made _ store))
+
 cell-requires : tie.Need-cell-requires
-cell-requires c κs = (sound-fit _ (ok (c .before .before)), known c)
+cell-requires c κs = (sound-fit _ (ok (c .before .before .before .before)), known (c .before .before))
 
 bare-of-requires : tie.Need-bare-of-requires
 bare-of-requires c κs = search needs
 
 answered-requires : tie.Need-answered-requires
-answered-requires c κs = search needs
+answered-requires c κs =
+    let store = ok (c .before .before .before .before .before .before) in
+    omega (arith, made-room _ store _ (c .before .before .decider-of .ensures .1), sound-fit _ store .n)
 
 returns-3 : tie.Need-returns-3
 returns-3 c =
-    let cell = c .answered .ensures ∙ ap ofCell (c .before .bare-of .ensures ∙ ap bareC (c .before .before .cell .ensures .0)) in
-    rw cell (look-shown _ _ (ok (c .before .before .before .before .before)) (known (c .before .before .before)))
+    let decider = c .before .before .before .decider-of in
+    let at-focus = c .before .before .before .before .focus-of .ensures .0 in
+    let cell = c .answered .ensures ∙ ap (λ (b : List ℕ). ofCell b (decider .result)) (c .before .bare-of .ensures ∙ ap bareC (c .before .before .cell .ensures .0)) in
+    rw cell (look-shown _ _ (ok (c .before .before .before .before .before .before .before)) (known (c .before .before .before .before .before)) (decider .result) (rw at-focus at (decider .ensures .0)))
 
 pub look-spec : {M : Type 1} → statement M
 look-spec =
@@ -55,6 +67,8 @@ look-spec =
     returns
     vars-of-requires
     returns-2
+    focus-of-requires
+    decider-of-requires
     cell-requires
     bare-of-requires
     answered-requires

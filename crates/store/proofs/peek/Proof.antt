@@ -1,9 +1,10 @@
--- `peek` keeps its promise: refused row by row, else what was found is the value at a. Assumes nothing.
+-- `peek` keeps its promise: refused row by row, else what was found is the value at a and its decider. Assumes nothing.
 use Prim.Native.Nat.{_<_}
 use native.Mathlib.Omega.{arith}
 use Rattle.layout.specs.Records.{vars}
 use Rattle.layout.specs.Sound.{Sound}
 use Rattle.layout.specs.SoundLaws.{sound-fit}
+use Rattle.layout.specs.WalkLaws.{made-room}
 use Rattle.layout.specs.CheckLaws.{held, refuted}
 use Rattle.layout.specs.Made.{IsMade}
 use Rattle.store.proofs.Keeps.{peek-damaged, peek-unknown, peek-unmade, peek-shown}
@@ -45,7 +46,9 @@ find-requires : tie.Need-find-requires
 find-requires c κs = (ok (c .before .before .before .before), (made c, known (c .before .before)))
 
 answered-requires : tie.Need-answered-requires
-answered-requires c κs = search needs
+answered-requires c κs =
+    let store = ok (c .before .before .before .before .before .before) in
+    omega (arith, made-room _ store _ (c .before .find .ensures .made), sound-fit _ store .n)
 
 returns-4 : tie.Need-returns-4
 returns-4 c =

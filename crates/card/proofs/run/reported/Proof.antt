@@ -100,8 +100,9 @@ returns-3 c = c .done3 .ensures ∙ ap (reportOf _) (sym (c .before .before .a2 
 returns-4 : tie.Need-returns-4
 unfolding reportOf
 returns-4 c =
-    let v = c .before .before .a3 .given .0 .0 in
-    c .valued .ensures ∙ rw (toZ-ofZ w32 v (record { sfits = c .before .known-told3 .given .0 .1 })) (ap (reportOf _) (sym (c .before .before .a3 .given .1)))
+    let told = c .before .before .before .a3 .given in
+    let value = told .0 .0 .value in
+    c .valued .ensures ∙ rw (toZ-ofZ w32 value (record { sfits = c .before .struct-told .given .0 .1 })) (ap (reportOf _) (sym (told .1)))
 
 returns-5 : tie.Need-returns-5
 unfolding reportOf

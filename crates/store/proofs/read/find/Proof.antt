@@ -12,8 +12,9 @@ cell-by-requires c κs = search needs
 
 returns : tie.Need-returns
 returns c =
+    let (by, made) = c .before .decider-of .ensures in
     let own = c .cell-by .ensures in
-    found-at _ (c .before .before .before .pre .0) (c .before .decider-of .ensures .0) (own .0) (own .1)
+    found-at _ (c .before .before .before .pre .0) by made (own .0) (own .1)
 
 pub find-spec : {M : Type 1} → statement M
 find-spec = tie.close (tie.spec decider-of-requires cell-by-requires returns)
