@@ -163,7 +163,7 @@ fn swap_node(p: &mut [u8], k: u8, c: [u8; Store::BARE]) -> [u8; Store::BARE]
     requires { ⌜ length (now p) ≡ nodeSize ⌝ }
     ensures { λ r. ⌜ (r ≡ storedN (now (p .entry))) × (now (p .exit) ≡ swapN (now (p .entry)) k c) ⌝ }
 {
-    let d = [p[1], p[8], p[9], p[10], p[11]];
+    let d = stored_of(p);
     p[0] = k;
     p[1] = c[0];
     p[8] = c[1];

@@ -2,6 +2,7 @@ use mathlib.Core.Path.{ap, _∙_}
 use lib.IntN.{ℤ}
 use mir.Syntax.{w32}
 use mir.ValLaws.{toZ-ofZ}
+use native.Mathlib.Omega.{arith}
 use borrow.Author.Tests.{eq-eqb, ne-eqb}
 use Rattle.store.specs.declared.Answer.the-variants.{Value}
 use Rattle.store.specs.Answers.{ofCell}
@@ -10,7 +11,7 @@ use Rattle.store.proofs.answered.Statement.{statement}
 use Rattle.store.proofs.answered.Tie as tie
 
 array-read-if1 : tie.Need-array-read-if1
-array-read-if1 c = search needs
+array-read-if1 c = omega arith
 
 returns : tie.Need-returns
 unfolding ofCell

@@ -23,10 +23,10 @@ returns-3 : tie.Need-returns-3
 returns-3 c = search needs
 
 mul-if6 : tie.Need-mul-if6
-mul-if6 c = search needs
+mul-if6 c = omega arith
 
 add-if6 : tie.Need-add-if6
-add-if6 c = search needs
+add-if6 c = omega arith
 
 mul-if6-2 : tie.Need-mul-if6-2
 mul-if6-2 c = record { fits = omega (arith, ltb-false) }

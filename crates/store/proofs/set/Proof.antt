@@ -51,7 +51,7 @@ bare-of-requires : tie.Need-bare-of-requires
 bare-of-requires c κs = search needs
 
 array-read-if3 : tie.Need-array-read-if3
-array-read-if3 c = search needs
+array-read-if3 c = omega arith
 
 same-length-3 : tie.Need-same-length-3
 same-length-3 c = search needs

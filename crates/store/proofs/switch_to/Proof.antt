@@ -1,4 +1,5 @@
 -- `switch_to` keeps what goto and back share: the survey counts what tell writes and what the walk moves. Assumes nothing.
+use mathlib.Core.Path.{_∙_}
 use native.Mathlib.Omega.{arith}
 use Rattle.layout.specs.SoundLaws.{sound-fit}
 use Rattle.layout.specs.WalkLaws.{made-room}
@@ -42,19 +43,21 @@ cast-t22 : tie.Need-cast-t22
 cast-t22 c =
     let survey = c .before .before .before .before .before .before .before .before .before .before .before .before .before .before .before in
     let st = survey .before .before .before .before in
-    rw (survey .survey .ensures .1 .0) (record { fits = omega (arith, few-moves _ (st .pre .0) _ (st .pre .1)) })
+    record { fits = omega (arith, survey .survey .ensures .1 .0, few-moves _ (st .pre .0) _ (st .pre .1)) }
 
 cast-t23 : tie.Need-cast-t23
 cast-t23 c =
     let survey = c .before .before .before .before .before .before .before .before .before .before .before .before .before .before .before in
     let st = survey .before .before .before .before in
-    rw (survey .survey .ensures .1 .1) (record { fits = omega (arith, few-events _ (st .pre .0) _ (st .pre .1)) })
+    record { fits = omega (arith, survey .survey .ensures .1 .1, few-events _ (st .pre .0) _ (st .pre .1)) }
 
 same-length-2 : tie.Need-same-length-2
-same-length-2 c = search needs
+same-length-2 c =
+    let walk = c .before .before .before in
+    walk .walk .ensures .kept .long ∙ walk .before .before .before .before .leave-to .ensures .kept .long
 
 same-length-3 : tie.Need-same-length-3
-same-length-3 c = search needs
+same-length-3 c = c .before .before .before .before .before .before .before .before .before .before .before .tell .kept .1 .0
 
 returns-2 : tie.Need-returns-2
 unfolding roomFor

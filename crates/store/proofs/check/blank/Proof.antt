@@ -5,8 +5,8 @@ use mathlib.Core.List.{List}
 use Prim.Native.Nat.{ℕ}
 use lib.ListN.{length, getD}
 use lib.Dec.{eqb}
+use native.Mathlib.Omega.{arith}
 use borrow.Author.Tests.{eqb-true, eqb-false, not-true, not-false}
-use borrow.Author.Needs.{needs}
 use Rattle.layout.specs.Limits.{bareSize}
 use Rattle.layout.specs.Bytes.{by-tab}
 use Rattle.layout.specs.Records.{blankCell}
@@ -21,25 +21,25 @@ written : (p : List ℕ) → length p ≡ bareSize → byte 0 p ≡ 0 → byte 1
 written = by-tab bareSize (λ p. byte 0 p ≡ 0 → byte 1 p ≡ 0 → byte 2 p ≡ 0 → byte 3 p ≡ 0 → byte 4 p ≡ 0 → p ≡ blankCell) (λ f a b c d e. cc)
 
 array-read-if1 : tie.Need-array-read-if1
-array-read-if1 c = search needs
+array-read-if1 c = omega arith
 
 array-read-if2 : tie.Need-array-read-if2
-array-read-if2 c = search needs
+array-read-if2 c = omega arith
 
 returns : tie.Need-returns
 returns c = ⊎-elim (λ w e. w .taken (ap (byte 0) e)) (λ w e. eqb-false _ _ (not-true _ (w .1 .taken)) (ap (byte 1) e)) (c .if1 .came)
 
 array-read-if3 : tie.Need-array-read-if3
-array-read-if3 c = search needs
+array-read-if3 c = omega arith
 
 array-read-if4 : tie.Need-array-read-if4
-array-read-if4 c = search needs
+array-read-if4 c = omega arith
 
 returns-2 : tie.Need-returns-2
 returns-2 c = ⊎-elim (λ w e. w .taken (ap (byte 2) e)) (λ w e. eqb-false _ _ (not-true _ (w .1 .taken)) (ap (byte 3) e)) (c .if3 .came)
 
 array-read-result : tie.Need-array-read-result
-array-read-result c = search needs
+array-read-result c = omega arith
 
 returns-3 : tie.Need-returns-3
 returns-3 c =

@@ -33,7 +33,7 @@ unfolding fieldsOf
 part-zeros-start c = omega arith
 
 part-zeros-end : tie.Need-part-zeros-end
-part-zeros-end c = search needs
+part-zeros-end c = omega arith
 
 zeros-requires : tie.Need-zeros-requires
 zeros-requires c κs = search needs

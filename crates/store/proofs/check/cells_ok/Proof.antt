@@ -45,7 +45,7 @@ unfolding fieldsOf
 returns c = λ ok. refuted (c .before .proper .result) (c .if1 .taken) (tested (c .before)) (ok (c .before .before .before .before .before .loop .x) (omega arith))
 
 add-x : tie.Need-add-x Inv-loop μ-loop
-add-x c = search needs
+add-x c = omega arith
 
 loop-less : tie.Need-loop-less Inv-loop μ-loop
 loop-less c = search needs

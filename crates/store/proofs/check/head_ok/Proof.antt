@@ -32,16 +32,16 @@ unfolding fieldsOf
 returns-3 c = ⊎-elim (λ w h. omega (arith, h .head .room-low)) (λ w h. omega (arith, ltb-true, h .head .room-high)) (c .if4 .came)
 
 mul-if6 : tie.Need-mul-if6
-mul-if6 c = search needs
+mul-if6 c = omega arith
 
 add-if6 : tie.Need-add-if6
-add-if6 c = search needs
+add-if6 c = omega arith
 
 mul-if6-2 : tie.Need-mul-if6-2
-mul-if6-2 c = search needs
+mul-if6-2 c = omega arith
 
 add-if6-2 : tie.Need-add-if6-2
-add-if6-2 c = search needs
+add-if6-2 c = omega arith
 
 returns-4 : tie.Need-returns-4
 returns-4 c = search needs

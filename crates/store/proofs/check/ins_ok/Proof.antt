@@ -62,7 +62,7 @@ returns c =
 
 add-n : tie.Need-add-n Inv-loop μ-loop
 unfolding fieldsOf
-add-n c = search needs
+add-n c = omega arith
 
 parent-of-requires : tie.Need-parent-of-requires Inv-loop μ-loop
 unfolding fieldsOf

@@ -43,7 +43,7 @@ unfolding parentN
 returns c = λ h. omega (arith, h .parent)
 
 shared-slice-read-k : tie.Need-shared-slice-read-k
-shared-slice-read-k c = search needs
+shared-slice-read-k c = omega arith
 
 binding-ok-requires : tie.Need-binding-ok-requires
 binding-ok-requires c κs = search needs

@@ -72,16 +72,16 @@ unfolding fieldsOf
 returns c = (λ ok. refuted (c .before .node-ok .result) (c .if1 .taken) (tested (c .before)) (ok (c .before .before .before .before .loop .n) (omega arith) (omega arith)), λ e. clash e refl)
 
 shared-slice-read-is-in : tie.Need-shared-slice-read-is-in Inv-loop μ-loop
-shared-slice-read-is-in c = search needs
+shared-slice-read-is-in c = omega arith
 
 is-in-requires : tie.Need-is-in-requires Inv-loop μ-loop
 is-in-requires c κs = search needs
 
 add-ins : tie.Need-add-ins Inv-loop μ-loop
-add-ins c = search needs
+add-ins c = omega arith
 
 add-n : tie.Need-add-n Inv-loop μ-loop
-add-n c = search needs
+add-n c = omega arith
 
 loop-less : tie.Need-loop-less Inv-loop μ-loop
 loop-less c = search needs

@@ -18,7 +18,7 @@ unbound p true e h = inl h
 unbound p false e h = ⊎-elim h (λ q. omega arith)
 
 array-read-k : tie.Need-array-read-k
-array-read-k c = search needs
+array-read-k c = omega arith
 
 blank-requires : tie.Need-blank-requires
 blank-requires c κs = search needs

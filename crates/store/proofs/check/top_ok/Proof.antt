@@ -10,19 +10,19 @@ use Rattle.store.proofs.check.top_ok.Statement.{statement}
 use Rattle.store.proofs.check.top_ok.Tie as tie
 
 shared-slice-read-if1 : tie.Need-shared-slice-read-if1
-shared-slice-read-if1 c = search needs
+shared-slice-read-if1 c = omega arith
 
 returns : tie.Need-returns
 returns c = λ e. c .if1 .taken (bytes-top _ (c .before .before .before .pre) e .0)
 
 sub-zeros : tie.Need-sub-zeros
-sub-zeros c = search needs
+sub-zeros c = omega arith
 
 part-zeros-start : tie.Need-part-zeros-start
-part-zeros-start c = search needs
+part-zeros-start c = omega arith
 
 part-zeros-end : tie.Need-part-zeros-end
-part-zeros-end c = search needs
+part-zeros-end c = omega arith
 
 zeros-requires : tie.Need-zeros-requires
 zeros-requires c κs = search needs

@@ -29,19 +29,19 @@ loop-holds : tie.Need-loop-holds Inv-loop μ-loop
 loop-holds c = (omega arith, λ k h. absurd (omega arith))
 
 mul-a : tie.Need-mul-a Inv-loop μ-loop
-mul-a c = search needs
+mul-a c = omega arith
 
 add-e : tie.Need-add-e Inv-loop μ-loop
-add-e c = search needs
+add-e c = omega arith
 
 sub-bare-of : tie.Need-sub-bare-of Inv-loop μ-loop
-sub-bare-of c = search needs
+sub-bare-of c = omega arith
 
 part-bare-of-start : tie.Need-part-bare-of-start Inv-loop μ-loop
-part-bare-of-start c = search needs
+part-bare-of-start c = omega arith
 
 part-bare-of-end : tie.Need-part-bare-of-end Inv-loop μ-loop
-part-bare-of-end c = search needs
+part-bare-of-end c = omega arith
 
 bare-of-requires : tie.Need-bare-of-requires Inv-loop μ-loop
 bare-of-requires c κs = search needs
@@ -53,7 +53,7 @@ returns : tie.Need-returns Inv-loop μ-loop
 returns c = λ ok. refuted (c .before .proper .result) (c .if1 .taken) (tested (c .before)) (ok (c .before .before .before .before .before .loop .x) (omega arith))
 
 add-x : tie.Need-add-x Inv-loop μ-loop
-add-x c = search needs
+add-x c = omega arith
 
 loop-less : tie.Need-loop-less Inv-loop μ-loop
 loop-less c = search needs

@@ -20,7 +20,7 @@ set-node-requires : tie.Need-set-node-requires
 set-node-requires c κs = let st = c .before .before .before .before .before .before in let ok = st .pre .0 in let l = space-left _ ok (st .pre .1 .0) in (sound-fit _ ok, (omega (arith, c .before .before .before .made-of .ensures .0), (c .before .focus-of .ensures .1, (st .pre .1 .1 .0, st .pre .1 .1 .1))))
 
 add-set-made : tie.Need-add-set-made
-add-set-made c = search needs
+add-set-made c = omega arith
 
 set-made-requires : tie.Need-set-made-requires
 set-made-requires c κs = let st = c .before .before .before .before .before .before .before .before .before .before in let ok = st .pre .0 in let l = space-left _ ok (st .pre .1 .0) in let fit = sound-fit _ ok in (search needs, omega (arith, c .before .before .before .before .before .before .before .made-of .ensures .0, fit .n, l))

@@ -2,6 +2,7 @@
 use mathlib.Core.Path.{ap, _∙_}
 use mathlib.Core.List.{List}
 use Prim.Native.Nat.{ℕ, _+_}
+use native.Mathlib.Omega.{arith}
 use borrow.Author.Needs.{needs}
 use Rattle.layout.specs.Records.{withFocus}
 use Rattle.layout.specs.Writes.{turnB, moveB}
@@ -12,7 +13,7 @@ kind-of-requires : tie.Need-kind-of-requires
 kind-of-requires c κs = search needs
 
 add-turn : tie.Need-add-turn
-add-turn c = search needs
+add-turn c = omega arith
 
 turn-requires : tie.Need-turn-requires
 turn-requires c κs = search needs

@@ -1,4 +1,5 @@
 -- Bits below 2^31 are the value; above, -1 less what is missing to all ones is.
+use native.Mathlib.Omega.{arith}
 use borrow.Author.Needs.{needs}
 use Rattle.store.proofs.Signs.{low-fits, low-bits}
 use Rattle.store.proofs.number.of_bits.Statement.{statement}
@@ -8,7 +9,7 @@ cast-result : tie.Need-cast-result
 cast-result c = search needs
 
 sub-result : tie.Need-sub-result
-sub-result c = search needs
+sub-result c = omega arith
 
 cast-result-2 : tie.Need-cast-result-2
 cast-result-2 c = search needs

@@ -10,13 +10,13 @@ cast-p : tie.Need-cast-p
 cast-p c = search needs
 
 slice-write-p : tie.Need-slice-write-p
-slice-write-p c = search needs
+slice-write-p c = omega arith
 
 cast-p-2 : tie.Need-cast-p-2
 cast-p-2 c = search needs
 
 add-p : tie.Need-add-p
-add-p c = search needs
+add-p c = omega arith
 
 slice-write-p-2 : tie.Need-slice-write-p-2
 slice-write-p-2 c = simp length-set (omega arith)

@@ -4,52 +4,53 @@ use Prim.Native.Nat.{_+_, _*_}
 use mir.Val.{toZ}
 use mir.ValLaws.{toZ-ofZ}
 use mir.Syntax.{w32}
+use native.Mathlib.Omega.{arith}
 use borrow.Author.Needs.{needs}
 use Rattle.layout.specs.Records.{bitsC}
 use Rattle.store.proofs.number.value_of.Statement.{statement}
 use Rattle.store.proofs.number.value_of.Tie as tie
 
 array-read-wide32 : tie.Need-array-read-wide32
-array-read-wide32 c = search needs
+array-read-wide32 c = omega arith
 
 wide32-requires : tie.Need-wide32-requires
 wide32-requires c κs = search needs
 
 array-read-wide32-2 : tie.Need-array-read-wide32-2
-array-read-wide32-2 c = search needs
+array-read-wide32-2 c = omega arith
 
 wide32-requires-2 : tie.Need-wide32-requires-2
 wide32-requires-2 c κs = search needs
 
 mul-of-bits : tie.Need-mul-of-bits
-mul-of-bits c = search needs
+mul-of-bits c = omega arith
 
 add-of-bits : tie.Need-add-of-bits
-add-of-bits c = search needs
+add-of-bits c = omega arith
 
 array-read-wide32-3 : tie.Need-array-read-wide32-3
-array-read-wide32-3 c = search needs
+array-read-wide32-3 c = omega arith
 
 wide32-requires-3 : tie.Need-wide32-requires-3
 wide32-requires-3 c κs = search needs
 
 mul-of-bits-2 : tie.Need-mul-of-bits-2
-mul-of-bits-2 c = search needs
+mul-of-bits-2 c = omega arith
 
 add-of-bits-2 : tie.Need-add-of-bits-2
-add-of-bits-2 c = search needs
+add-of-bits-2 c = omega arith
 
 array-read-wide32-4 : tie.Need-array-read-wide32-4
-array-read-wide32-4 c = search needs
+array-read-wide32-4 c = omega arith
 
 wide32-requires-4 : tie.Need-wide32-requires-4
 wide32-requires-4 c κs = search needs
 
 mul-of-bits-3 : tie.Need-mul-of-bits-3
-mul-of-bits-3 c = search needs
+mul-of-bits-3 c = omega arith
 
 add-of-bits-3 : tie.Need-add-of-bits-3
-add-of-bits-3 c = search needs
+add-of-bits-3 c = omega arith
 
 of-bits-requires : tie.Need-of-bits-requires
 of-bits-requires c κs = search needs

@@ -12,49 +12,49 @@ use Rattle.store.proofs.opening.open_at.Statement.{statement}
 use Rattle.store.proofs.opening.open_at.Tie as tie
 
 mul-a : tie.Need-mul-a
-mul-a c = search needs
+mul-a c = omega arith
 
 add-a : tie.Need-add-a
-add-a c = search needs
+add-a c = omega arith
 
 mul-e : tie.Need-mul-e
-mul-e c = search needs
+mul-e c = omega arith
 
 add-e : tie.Need-add-e
-add-e c = search needs
+add-e c = omega arith
 
 sub-put-head : tie.Need-sub-put-head
-sub-put-head c = search needs
+sub-put-head c = omega arith
 
 part-put-head-start : tie.Need-part-put-head-start
-part-put-head-start c = search needs
+part-put-head-start c = omega arith
 
 part-put-head-end : tie.Need-part-put-head-end
-part-put-head-end c = search needs
+part-put-head-end c = omega arith
 
 put-head-requires : tie.Need-put-head-requires
 put-head-requires c κs = search needs
 
 sub-copy : tie.Need-sub-copy
-sub-copy c = search needs
+sub-copy c = omega arith
 
 part-copy-start : tie.Need-part-copy-start
-part-copy-start c = search needs
+part-copy-start c = omega arith
 
 part-copy-end : tie.Need-part-copy-end
-part-copy-end c = search needs
+part-copy-end c = omega arith
 
 copy-requires : tie.Need-copy-requires
 copy-requires c κs = search needs
 
 sub-put-nodes : tie.Need-sub-put-nodes
-sub-put-nodes c = search needs
+sub-put-nodes c = omega arith
 
 part-put-nodes-start : tie.Need-part-put-nodes-start
-part-put-nodes-start c = search needs
+part-put-nodes-start c = omega arith
 
 part-put-nodes-end : tie.Need-part-put-nodes-end
-part-put-nodes-end c = search needs
+part-put-nodes-end c = omega arith
 
 put-nodes-requires : tie.Need-put-nodes-requires
 put-nodes-requires c κs = search needs

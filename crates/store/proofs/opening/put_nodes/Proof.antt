@@ -22,7 +22,7 @@ clear-requires : tie.Need-clear-requires
 clear-requires c κs = search needs
 
 slice-write-p : tie.Need-slice-write-p
-slice-write-p c = search needs
+slice-write-p c = omega arith
 
 same-length : tie.Need-same-length
 same-length c = search needs

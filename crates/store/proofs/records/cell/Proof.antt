@@ -1,28 +1,27 @@
 -- The part `s[a..e]` is the cell's record.
 use native.Mathlib.Omega.{arith}
-use borrow.Author.Needs.{needs}
 use Rattle.layout.specs.Bytes.{seen}
 use Rattle.layout.specs.Records.{cellOf}
 use Rattle.store.proofs.records.cell.Statement.{statement}
 use Rattle.store.proofs.records.cell.Tie as tie
 
 mul-a : tie.Need-mul-a
-mul-a c = search needs
+mul-a c = omega arith
 
 add-a : tie.Need-add-a
-add-a c = search needs
+add-a c = omega arith
 
 add-e : tie.Need-add-e
-add-e c = search needs
+add-e c = omega arith
 
 sub-result : tie.Need-sub-result
-sub-result c = search needs
+sub-result c = omega arith
 
 part-result-start : tie.Need-part-result-start
-part-result-start c = search needs
+part-result-start c = omega arith
 
 part-result-end : tie.Need-part-result-end
-part-result-end c = search needs
+part-result-end c = omega arith
 
 returns : tie.Need-returns
 unfolding cellOf

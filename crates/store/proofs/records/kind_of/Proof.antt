@@ -1,4 +1,5 @@
 use mathlib.Core.Path.{ap}
+use native.Mathlib.Omega.{arith}
 use borrow.Author.Needs.{needs}
 use Rattle.layout.specs.Records.{kindN}
 use Rattle.store.proofs.records.kind_of.Statement.{statement}
@@ -8,7 +9,7 @@ node-requires : tie.Need-node-requires
 node-requires c κs = search needs
 
 shared-slice-read-result : tie.Need-shared-slice-read-result
-shared-slice-read-result c = search needs
+shared-slice-read-result c = omega arith
 
 returns : tie.Need-returns
 unfolding kindN

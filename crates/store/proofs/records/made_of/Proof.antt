@@ -1,3 +1,4 @@
+use native.Mathlib.Omega.{arith}
 use borrow.Author.Needs.{needs}
 use Rattle.layout.specs.Bytes.{u16, part}
 use Rattle.layout.specs.Records.{made, headOf}
@@ -5,13 +6,13 @@ use Rattle.store.proofs.records.made_of.Statement.{statement}
 use Rattle.store.proofs.records.made_of.Tie as tie
 
 sub-u16-at : tie.Need-sub-u16-at
-sub-u16-at c = search needs
+sub-u16-at c = omega arith
 
 part-u16-at-start : tie.Need-part-u16-at-start
-part-u16-at-start c = search needs
+part-u16-at-start c = omega arith
 
 part-u16-at-end : tie.Need-part-u16-at-end
-part-u16-at-end c = search needs
+part-u16-at-end c = omega arith
 
 u16-at-requires : tie.Need-u16-at-requires
 u16-at-requires c κs = search needs

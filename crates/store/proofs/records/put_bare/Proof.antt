@@ -7,31 +7,31 @@ use Rattle.store.proofs.records.put_bare.Statement.{statement}
 use Rattle.store.proofs.records.put_bare.Tie as tie
 
 array-read-p : tie.Need-array-read-p
-array-read-p c = search needs
+array-read-p c = omega arith
 
 slice-write-p : tie.Need-slice-write-p
-slice-write-p c = search needs
+slice-write-p c = omega arith
 
 array-read-p-2 : tie.Need-array-read-p-2
-array-read-p-2 c = search needs
+array-read-p-2 c = omega arith
 
 slice-write-p-2 : tie.Need-slice-write-p-2
-slice-write-p-2 c = search needs
+slice-write-p-2 c = simp length-set (omega arith)
 
 array-read-p-3 : tie.Need-array-read-p-3
-array-read-p-3 c = search needs
+array-read-p-3 c = omega arith
 
 slice-write-p-3 : tie.Need-slice-write-p-3
-slice-write-p-3 c = search needs
+slice-write-p-3 c = simp length-set (omega arith)
 
 array-read-p-4 : tie.Need-array-read-p-4
-array-read-p-4 c = search needs
+array-read-p-4 c = omega arith
 
 slice-write-p-4 : tie.Need-slice-write-p-4
-slice-write-p-4 c = search needs
+slice-write-p-4 c = simp length-set (omega arith)
 
 array-read-p-5 : tie.Need-array-read-p-5
-array-read-p-5 c = search needs
+array-read-p-5 c = omega arith
 
 slice-write-p-5 : tie.Need-slice-write-p-5
 slice-write-p-5 c = simp length-set (omega arith)

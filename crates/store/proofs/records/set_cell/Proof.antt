@@ -1,5 +1,6 @@
 -- What is done to the lent part is done to the cell's record in the store (`lent-at`).
 use mathlib.Core.Path.{refl}
+use native.Mathlib.Omega.{arith}
 use borrow.Author.Needs.{needs}
 use Rattle.layout.specs.Bytes.{lent-at}
 use Rattle.layout.specs.Records.{withCell, cellOf, putC}
@@ -7,22 +8,22 @@ use Rattle.store.proofs.records.set_cell.Statement.{statement}
 use Rattle.store.proofs.records.set_cell.Tie as tie
 
 mul-a : tie.Need-mul-a
-mul-a c = search needs
+mul-a c = omega arith
 
 add-a : tie.Need-add-a
-add-a c = search needs
+add-a c = omega arith
 
 add-e : tie.Need-add-e
-add-e c = search needs
+add-e c = omega arith
 
 sub-put-bare : tie.Need-sub-put-bare
-sub-put-bare c = search needs
+sub-put-bare c = omega arith
 
 part-put-bare-start : tie.Need-part-put-bare-start
-part-put-bare-start c = search needs
+part-put-bare-start c = omega arith
 
 part-put-bare-end : tie.Need-part-put-bare-end
-part-put-bare-end c = search needs
+part-put-bare-end c = omega arith
 
 put-bare-requires : tie.Need-put-bare-requires
 put-bare-requires c κs = search needs

@@ -1,3 +1,4 @@
+use native.Mathlib.Omega.{arith}
 use borrow.Author.Needs.{needs}
 use Rattle.layout.specs.Bytes.{splice, part}
 use Rattle.layout.specs.Records.{withMade, withHead, headOf}
@@ -5,13 +6,13 @@ use Rattle.store.proofs.records.set_made.Statement.{statement}
 use Rattle.store.proofs.records.set_made.Tie as tie
 
 sub-put16-at : tie.Need-sub-put16-at
-sub-put16-at c = search needs
+sub-put16-at c = omega arith
 
 part-put16-at-start : tie.Need-part-put16-at-start
-part-put16-at-start c = search needs
+part-put16-at-start c = omega arith
 
 part-put16-at-end : tie.Need-part-put16-at-end
-part-put16-at-end c = search needs
+part-put16-at-end c = omega arith
 
 put16-at-requires : tie.Need-put16-at-requires
 put16-at-requires c κs = search needs

@@ -1,4 +1,5 @@
 -- What is done to the lent part is done to the node's record in the store (`lent-at`).
+use native.Mathlib.Omega.{arith}
 use borrow.Author.Needs.{needs}
 use Rattle.layout.specs.Bytes.{lent-at}
 use Rattle.layout.specs.Records.{withNode, nodeB}
@@ -9,16 +10,16 @@ node-at-requires : tie.Need-node-at-requires
 node-at-requires c κs = search needs
 
 add-e : tie.Need-add-e
-add-e c = search needs
+add-e c = omega arith
 
 sub-put-node : tie.Need-sub-put-node
-sub-put-node c = search needs
+sub-put-node c = omega arith
 
 part-put-node-start : tie.Need-part-put-node-start
-part-put-node-start c = search needs
+part-put-node-start c = omega arith
 
 part-put-node-end : tie.Need-part-put-node-end
-part-put-node-end c = search needs
+part-put-node-end c = omega arith
 
 put-node-requires : tie.Need-put-node-requires
 put-node-requires c κs = search needs

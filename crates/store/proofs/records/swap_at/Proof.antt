@@ -1,5 +1,6 @@
 -- What is done to the lent part is done to the node's record in the store (`lent-at`).
 use mathlib.Core.Path.{ap, _∙_}
+use native.Mathlib.Omega.{arith}
 use borrow.Author.Needs.{needs}
 use Rattle.layout.specs.Bytes.{seen-at, lent-at}
 use Rattle.layout.specs.Records.{withNode, nodeOf, storedN, swapN}
@@ -10,16 +11,16 @@ node-at-requires : tie.Need-node-at-requires
 node-at-requires c κs = search needs
 
 add-e : tie.Need-add-e
-add-e c = search needs
+add-e c = omega arith
 
 sub-swap-node : tie.Need-sub-swap-node
-sub-swap-node c = search needs
+sub-swap-node c = omega arith
 
 part-swap-node-start : tie.Need-part-swap-node-start
-part-swap-node-start c = search needs
+part-swap-node-start c = omega arith
 
 part-swap-node-end : tie.Need-part-swap-node-end
-part-swap-node-end c = search needs
+part-swap-node-end c = omega arith
 
 swap-node-requires : tie.Need-swap-node-requires
 swap-node-requires c κs = search needs

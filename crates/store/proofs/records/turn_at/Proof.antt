@@ -1,4 +1,5 @@
 -- What is done to the lent part is done to the node's record in the store (`lent-at`).
+use native.Mathlib.Omega.{arith}
 use borrow.Author.Needs.{needs}
 use Rattle.layout.specs.Bytes.{lent-at}
 use Rattle.layout.specs.Records.{withNode, nodeOf, turnN}
@@ -9,16 +10,16 @@ node-at-requires : tie.Need-node-at-requires
 node-at-requires c κs = search needs
 
 add-e : tie.Need-add-e
-add-e c = search needs
+add-e c = omega arith
 
 sub-turn-node : tie.Need-sub-turn-node
-sub-turn-node c = search needs
+sub-turn-node c = omega arith
 
 part-turn-node-start : tie.Need-part-turn-node-start
-part-turn-node-start c = search needs
+part-turn-node-start c = omega arith
 
 part-turn-node-end : tie.Need-part-turn-node-end
-part-turn-node-end c = search needs
+part-turn-node-end c = omega arith
 
 turn-node-requires : tie.Need-turn-node-requires
 turn-node-requires c κs = search needs

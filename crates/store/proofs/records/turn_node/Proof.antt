@@ -1,11 +1,12 @@
 use mathlib.Core.Path.{refl}
+use native.Mathlib.Omega.{arith}
 use borrow.Author.Needs.{needs}
 use Rattle.layout.specs.Records.{turnN}
 use Rattle.store.proofs.records.turn_node.Statement.{statement}
 use Rattle.store.proofs.records.turn_node.Tie as tie
 
 slice-write-p : tie.Need-slice-write-p
-slice-write-p c = search needs
+slice-write-p c = omega arith
 
 same-length : tie.Need-same-length
 same-length c = search needs

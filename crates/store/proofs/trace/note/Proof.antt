@@ -1,5 +1,6 @@
 -- `note` meets its contract: the part that was lent comes back as the event.
 use mathlib.Core.Path.{refl}
+use native.Mathlib.Omega.{arith}
 use borrow.Author.Needs.{needs}
 use Rattle.layout.specs.Bytes.{lent-at}
 use Rattle.layout.specs.Routes.{eventD}
@@ -7,19 +8,19 @@ use Rattle.store.proofs.trace.note.Statement.{statement}
 use Rattle.store.proofs.trace.note.Tie as tie
 
 mul-a : tie.Need-mul-a
-mul-a c = search needs
+mul-a c = omega arith
 
 add-b : tie.Need-add-b
-add-b c = search needs
+add-b c = omega arith
 
 sub-put-event : tie.Need-sub-put-event
-sub-put-event c = search needs
+sub-put-event c = omega arith
 
 part-put-event-start : tie.Need-part-put-event-start
-part-put-event-start c = search needs
+part-put-event-start c = omega arith
 
 part-put-event-end : tie.Need-part-put-event-end
-part-put-event-end c = search needs
+part-put-event-end c = omega arith
 
 put-event-requires : tie.Need-put-event-requires
 put-event-requires c κs = search needs

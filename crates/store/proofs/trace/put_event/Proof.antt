@@ -4,14 +4,13 @@ use mathlib.Core.List.{List}
 use Prim.Native.Nat.{ℕ}
 use native.Mathlib.Omega.{arith}
 use lib.ListN.{length-set}
-use borrow.Author.Needs.{needs}
 use Rattle.layout.specs.Bytes.{put16}
 use Rattle.layout.specs.EventLaws.{event-put}
 use Rattle.store.proofs.trace.put_event.Statement.{statement}
 use Rattle.store.proofs.trace.put_event.Tie as tie
 
 slice-write-p : tie.Need-slice-write-p
-slice-write-p c = search needs
+slice-write-p c = omega arith
 
 put16-at-requires : tie.Need-put16-at-requires
 put16-at-requires c κs = simp length-set (omega arith)

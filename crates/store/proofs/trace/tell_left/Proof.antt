@@ -25,7 +25,7 @@ note-requires c κs =
     omega (arith, st .pre .1)
 
 add-result : tie.Need-add-result
-add-result c = search needs
+add-result c = omega arith
 
 same-length : tie.Need-same-length
 same-length c = search needs
