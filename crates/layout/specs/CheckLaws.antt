@@ -68,14 +68,19 @@ Zeros s a e = (i : ℕ) → a ≤ i → i < e → getD s i 0 ≡ 0
 
 -- one byte more
 module _ (p : List ℕ) (i : ℕ) where
-  pub zeros-on : (other : ℕ) → getD p i 0 ≡ 0 → Says (eqb other 0) (Zeros p 0 i) → Says (eqb other 0) (Zeros p 0 (i + 1))
-  zeros-on other e =
-      says-map (eqb other 0)
-      (λ z j l. below-more (λ (k : ℕ). getD p k 0 ≡ 0) i (λ k. z k (omega arith)) e j)
-      (λ z j l h. z j l (omega arith))
+  pub zeros-on : (other : ℕ) → getD p i 0 ≤ other → Says (eqb other 0) (Zeros p 0 i) → Says (eqb other 0) (Zeros p 0 (i + 1))
+  zeros-on other e = go (eqb other 0) refl
+    where
+      go : (b : Bool) → eqb other 0 ≡ b → Says b (Zeros p 0 i) → Says b (Zeros p 0 (i + 1))
+      go true q z = λ j l. below-more (λ (k : ℕ). getD p k 0 ≡ 0) i (λ k. z k (omega arith)) (omega (arith, eqb-true other 0 q)) j
+      go false q z = λ w. z (λ j l h. w j l (omega arith))
 
-  pub zeros-off : getD p i 0 ≢ 0 → Says (eqb 1 0) (Zeros p 0 (i + 1))
-  zeros-off d z = d (z i (omega arith) (omega arith))
+  pub zeros-off : (other : ℕ) → other < getD p i 0 → Says (eqb (getD p i 0) 0) (Zeros p 0 (i + 1))
+  zeros-off other d = go (eqb (getD p i 0) 0) refl
+    where
+      go : (b : Bool) → eqb (getD p i 0) 0 ≡ b → Says b (Zeros p 0 (i + 1))
+      go true q = absurd (omega (arith, eqb-true (getD p i 0) 0 q))
+      go false q = λ z. omega (arith, z i (omega arith) (omega arith))
 
 pub zeros-list : (p : List ℕ) (n : ℕ) → length p ≡ n → Zeros p 0 n → p ≡ replicate n 0
 zeros-list p n e z =

@@ -50,19 +50,21 @@ fn head_ok(s: &[u8]) -> bool
     focus_of(s) < m
 }
 
-// Whether every byte is zero: all are looked at, with no early way out, so that the compiler can take many at a time.
+// Whether every byte is zero: the largest byte is. All are looked at, with no early way out, so that the compiler can take many at
+// a time.
 fn zeros(p: &[u8]) -> bool
     ensures { λ r. ⌜ Says r (now (p .entry) ≡ replicate (length (now (p .entry))) 0) ⌝ }
 {
-    let mut other: u8 = 0;
+    let mut largest: u8 = 0;
     let mut i = 0;
     while i < p.len() {
-        if p[i] != 0 {
-            other = 1;
+        let b = p[i];
+        if largest < b {
+            largest = b;
         }
         i += 1;
     }
-    other == 0
+    largest == 0
 }
 
 // State 0 and all zero, or state 1.
