@@ -25,7 +25,7 @@ use Rattle.layout.specs.Records.{headOf, vars, room, made, blankCell, ProperCel
 use Rattle.layout.specs.View.{asCell}
 use Rattle.layout.specs.Sound.{Sound}
 use Rattle.layout.specs.Made.{IsFull}
-use Rattle.layout.specs.Events.{eventB, eventsB}
+use Rattle.layout.specs.Events.{eventD, eventB, eventsB}
 use Rattle.layout.specs.Same.{part-take}
 use Rattle.layout.specs.Opening.{topCells}
 use Rattle.store.specs.Answers.{Numbers, refusal, seen}
@@ -220,7 +220,7 @@ two-vars : (cs : List Call) (said : List Said)
 two-vars cs said e = gives 2 4 0 (one ++ one) cs said (omega arith) (omega arith) (omega arith) (omega arith) tops-two e
 
 pub cases : All table
-unfolding saidBy run act outcome rows answerOf eventsOf changed shown backTo isMade nextNumber isFull lowest upd path route far valueAt deciderAt decidedBy topCells asCell topC bareC bitsC part eventsB eventB
+unfolding saidBy run act outcome rows answerOf eventsOf changed shown backTo isMade nextNumber isFull lowest upd path route far valueAt deciderAt decidedBy topCells asCell topC bareC bitsC part eventsB eventB eventD
 cases = (
   λ k a b. opens-well 256 k (omega arith) (omega arith) a b,
   (

@@ -8,7 +8,7 @@ use Prim.Native.Nat.{ℕ, _*_, _≤_, _<_}
 use native.Mathlib.Omega.{arith}
 use native.Mathlib.Decide.{ℕ-discrete, decLt}
 use mathlib.Core.List.{List, [], _∷_}
-use lib.ListN.{length, take, drop, length-append}
+use lib.ListN.{length, take, drop}
 use lib.Seq.{take-at, drop-at}
 use lib.Dec.{eqb}
 use borrow.Author.Tests.{lt-ltb, le-ltb, ne-eqb}
@@ -25,7 +25,8 @@ use Rattle.layout.specs.Fields.{fieldsOf, nodes}
 use Rattle.layout.specs.View.{asCell, whatN, upN, treeF, viewF, view}
 use Rattle.layout.specs.Sound.{Sound}
 use Rattle.layout.specs.Made.{IsMade}
-use Rattle.layout.specs.Events.{eventB, eventsB, told}
+use Rattle.layout.specs.Events.{eventsB, told}
+use Rattle.layout.specs.EventLaws.{events-length}
 use Rattle.layout.specs.Laws.{of-buffer, cell-past}
 use Rattle.layout.specs.SoundLaws.{what-top, what-blank, up-top, up-blank, Place, is-top, is-inner, is-blank, place, blank-node, sound-fit, sound-view}
 use Rattle.layout.specs.Same.{Bytes, same-meant, AgreeTo, agree-vars, agree-room, agree-view, agree-sound, agree-back}
@@ -89,11 +90,6 @@ module _ (c : Call) (s u t w : List ℕ) (agree : AgreeTo s u) (rooms : roomFor 
       go (no k) d = absurd (k (damaged-only c s t s′ t′ n (λ ok. k (codes ok)) p ∙ sym (damaged-only c u w u′ w′ m (λ ok. k (codes (agree-sound u s (agree-back s u agree) ok))) q)))
 
 -- ---- the events' bytes
-pub events-length : (es : List Event) → length (eventsB es) ≡ eventSize * length es
-unfolding eventsB eventB
-events-length [] = refl
-events-length (e ∷ es) = length-append (eventB e) (eventsB es) ∙ omega (arith, events-length es)
-
 -- a trace begins with the events told, and goes on as it was
 pub told-take : (es : List Event) (t : List ℕ) → take (eventSize * length es) (told es t) ≡ eventsB es
 unfolding told

@@ -3,14 +3,14 @@ use mathlib.Core.Path.{_≡_, sym, ap, _∙_}
 use Prim.Native.Nat.{ℕ, zero, suc}
 use mathlib.Core.List.{List, [], _∷_}
 use lib.ListN.{getD}
-use Rattle.rules.specs.Calls.{numberOf}
+use Rattle.rules.specs.Basic.{orTop}
 use Rattle.layout.specs.Limits.{maxVars, maxNodes, header, cellSize, nodeSize, eventSize}
 use Rattle.store.specs.Answers.{Numbers}
 use Rattle.kestrelnib.specs.declared.Reply.{Reply}
 
 -- `by` is 0 where there is none: on a refusal, and from calls that answer no value
 unfoldable pub replyOf : Numbers → Reply
-replyOf n = record { out = n .out; code = n .code; moves = n .moves; events = n .events; by = numberOf (n .by) }
+replyOf n = record { out = n .out; code = n .code; moves = n .moves; events = n .events; by = orTop (n .by) }
 
 -- the reply r hands over numbers of which P holds
 abbrev pub Hands : Reply → (Numbers → Type 0) → Type 0

@@ -9,16 +9,16 @@ use lib.ListN.{length, set, length-append, take-append-drop}
 use Rattle.rules.specs.Moves.{Event}
 use Rattle.layout.specs.Limits.{eventSize}
 use Rattle.layout.specs.Bytes.{u16, put16, by-tab, splice, splice-length, splice-next, splice-prev}
-use Rattle.layout.specs.Events.{bit, eventB, eventIn, eventsB, told}
-use Rattle.layout.specs.Routes.{eventD, toldAt}
+use Rattle.layout.specs.Events.{bit, eventD, eventB, eventIn, eventsB, told}
+use Rattle.layout.specs.Routes.{toldAt}
 
 event-length : (e : Event) → length (eventB e) ≡ eventSize
-unfolding eventB
+unfolding eventB eventD
 event-length e = refl
 
 -- an event's bytes are read back as that event
 pub event-back : (e : Event) → e .thunk < 65536 → e .place < 65536 → eventIn (eventB e) ≡ record { entering = e .entering; thunk = e .thunk; place = e .place }
-unfolding eventIn eventB u16
+unfolding eventIn eventB eventD u16
 event-back e h l =
     let side : eqb (bit (e .entering)) 1 ≡ e .entering = go (e .entering) in
     let thunk : e .thunk % 256 + 256 * (e .thunk / 256) ≡ e .thunk = omega arith in
@@ -29,7 +29,7 @@ event-back e h l =
     go true = refl
     go false = refl
 
-events-length : (es : List Event) → length (eventsB es) ≡ eventSize * length es
+pub events-length : (es : List Event) → length (eventsB es) ≡ eventSize * length es
 unfolding eventsB
 events-length [] = refl
 events-length (e ∷ es) = length-append (eventB e) (eventsB es) ∙ omega (arith, event-length e, events-length es)

@@ -17,8 +17,11 @@ abbrev pub bit : Bool → ℕ
 bit true = 1
 bit false = 0
 
+unfoldable pub eventD : ℕ → ℕ → ℕ → List ℕ
+eventD d thunk place = d ∷ thunk % 256 ∷ thunk / 256 ∷ place % 256 ∷ place / 256 ∷ []
+
 unfoldable pub eventB : Event → List ℕ
-eventB e = bit (e .entering) ∷ e .thunk % 256 ∷ e .thunk / 256 ∷ e .place % 256 ∷ e .place / 256 ∷ []
+eventB e = eventD (bit (e .entering)) (e .thunk) (e .place)
 
 -- the event in its bytes
 unfoldable pub eventIn : List ℕ → Read.Event

@@ -12,11 +12,11 @@ use mathlib.Core.List.{List, [], _∷_}
 use lib.Dec.{eqb}
 use lib.ListN.{length}
 use borrow.Author.Tests.{ne-eqb, lt-leb, le-leb}
-use Rattle.rules.specs.Basic.{clash, eqb-self, on, on-cases}
+use Rattle.rules.specs.Basic.{clash, eqb-self, on, on-cases, orTop}
 use Rattle.rules.specs.Tree.{What, blank, top, wind, Proper, binds, path, path-top, path-up}
 use Rattle.rules.specs.Values.{valueBy, isAt, below, seek, orSeen, seek-below}
 use Rattle.rules.specs.Store.{home}
-use Rattle.rules.specs.Calls.{deciderAt, numberOf, valueAt, peekOf, peek-shows}
+use Rattle.rules.specs.Calls.{deciderAt, valueAt, peekOf, peek-shows}
 use Rattle.layout.specs.Records.{vars, room, focus, blankCell, ProperCell, cellOf, bareC, nodeOf, kindN, parentN, varN, postN, storedN, topNode}
 use Rattle.layout.specs.Kinds.{within, byKind, isOut}
 use Rattle.layout.specs.Fields.{nodes, fieldsOf, Fit}
@@ -38,13 +38,13 @@ unfolding binderOf
 binder-inner zero l = absurd (omega arith)
 binder-inner (suc n) l = refl
 
-pub number-of-binder : (n : ℕ) → numberOf (binderOf n) ≡ n
+pub number-of-binder : (n : ℕ) → orTop (binderOf n) ≡ n
 unfolding binderOf
 number-of-binder zero = refl
 number-of-binder (suc n) = refl
 
-pub number-is : (n : ℕ) {o : Option ℕ} → binderOf n ≡ o → n ≡ numberOf o
-number-is n e = sym (number-of-binder n) ∙ ap numberOf e
+pub number-is : (n : ℕ) {o : Option ℕ} → binderOf n ≡ o → n ≡ orTop o
+number-is n e = sym (number-of-binder n) ∙ ap orTop e
 
 not-at : (what : ℕ → What) (stop n : ℕ) → n ≢ stop → isAt what (binderOf stop) n ≡ false
 unfolding binderOf

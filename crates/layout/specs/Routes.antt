@@ -61,10 +61,6 @@ pub record Climbing (s : List ℕ) (a c moves events : ℕ) : Type 0 where
   pub same : meeting s c ≡ meeting s a
 
 -- ---- events in the trace
--- an event's bytes: 0 leaving or 1 entering, postlude or prelude, place
-unfoldable pub eventD : ℕ → ℕ → ℕ → List ℕ
-eventD d thunk place = d ∷ thunk % 256 ∷ thunk / 256 ∷ place % 256 ∷ place / 256 ∷ []
-
 -- the trace t with the events es from the number k on
 unfoldable pub toldAt : ℕ → List Event → List ℕ → List ℕ
 toldAt k es t = splice t (eventSize * k) (eventSize * length es) (eventsB es)

@@ -2,42 +2,36 @@
 -- meeting point. Assumes nothing.
 use mathlib.Core.Path.{_≡_, refl, sym, ap, _∙_}
 use mathlib.Core.Logic.{_≢_}
-use mathlib.Core.Bool.{true, false}
+use mathlib.Core.Bool.{Bool, true, false}
 use mathlib.Core.Option.{Option, some}
 use Prim.Native.Nat.{ℕ, suc, _+_, _*_, _≤_, _<_}
 use native.Mathlib.Omega.{arith}
 use mathlib.Core.List.{List, [], _∷_, _++_, append-nil, append-assoc}
 use lib.ListN.{length, length-append}
+use Rattle.rules.specs.Basic.{orTop}
 use Rattle.rules.specs.Tree.{What, blank, top, binding, wind, Tree}
-use Rattle.rules.specs.Moves.{Event, parentOf, leaving, entering, isWind}
+use Rattle.rules.specs.Moves.{Event, windEvent, isWind}
 use Rattle.layout.specs.Limits.{eventSize}
 use Rattle.layout.specs.Bytes.{splice}
 use Rattle.layout.specs.Records.{focus, nodeOf, kindN, parentN, varN, postN}
 use Rattle.layout.specs.Fields.{fieldsOf}
 use Rattle.layout.specs.View.{upN, treeF, viewF, view}
 use Rattle.layout.specs.Sound.{Sound}
-use Rattle.layout.specs.Events.{told}
+use Rattle.layout.specs.Events.{eventD, told, eventsFrom, eventsTo}
 use Rattle.layout.specs.Made.{IsMade}
 use Rattle.layout.specs.Laws.{node-in}
 use Rattle.layout.specs.SoundLaws.{what-wind, up-node}
 use Rattle.layout.specs.WalkLaws.{made-seen, made-room, focus-made, parent-seen, parent-made}
-use Rattle.layout.specs.Routes.{Over, movesTo, movesFrom, leftEvents, enteredEvents, meeting, OnWay, eventD, toldAt, Entering}
-use Rattle.layout.specs.Events.{eventsFrom, eventsTo}
+use Rattle.layout.specs.Routes.{Over, movesTo, movesFrom, leftEvents, enteredEvents, meeting, OnWay, toldAt, Entering}
 use Rattle.layout.specs.RouteLaws.{moves-entered, events-entered, events-none, meet-up, below-meet, plain, what-node, proper, risen}
 use Rattle.layout.specs.EventLaws.{told-first, told-none, told-left, told-entered, told-length, told-next, told-prev}
 
 -- ---- the events of one node
-none-left : (w : What) (n p : ℕ) → isWind w ≡ 0 → leaving w n p ≡ []
-none-left blank n p e = refl
-none-left top n p e = refl
-none-left (binding x) n p e = refl
-none-left (wind a b) n p e = absurd (omega arith)
-
-none-entered : (w : What) (n p : ℕ) → isWind w ≡ 0 → entering w n p ≡ []
-none-entered blank n p e = refl
-none-entered top n p e = refl
-none-entered (binding x) n p e = refl
-none-entered (wind a b) n p e = absurd (omega arith)
+no-wind : (e : Bool) (w : What) (p : ℕ) → isWind w ≡ 0 → windEvent e w p ≡ []
+no-wind e blank p z = refl
+no-wind e top p z = refl
+no-wind e (binding x) p z = refl
+no-wind e (wind a b) p z = absurd (omega arith)
 
 -- the leaving events up to m, told as far as g: t came from t₀
 pub record Leaving (s : List ℕ) (m g e : ℕ) (t₀ t : List ℕ) : Type 0 where
@@ -59,19 +53,19 @@ module _ (s : List ℕ) (ok : Sound s) where
 
     left-wind : 4 ≤ kindN (nodeOf s n) → kindN (nodeOf s n) ≤ 5 → leftEvents s n ≡ record { entering = false; thunk = postN (nodeOf s n); place = parentN (nodeOf s n) } ∷ []
     left-wind l h =
-        ap (λ (w : What). leaving w n (parentOf (t .up n))) (what-node s ok n made ∙ what-wind (nodeOf s n) l h)
-        ∙ ap (λ (o : Option ℕ). leaving (wind (varN (nodeOf s n)) (postN (nodeOf s n))) n (parentOf o)) (parent l h)
+        ap (λ (w : What). windEvent false w (orTop (t .up n))) (what-node s ok n made ∙ what-wind (nodeOf s n) l h)
+        ∙ ap (λ (o : Option ℕ). windEvent false (wind (varN (nodeOf s n)) (postN (nodeOf s n))) (orTop o)) (parent l h)
 
     left-none : (4 ≤ kindN (nodeOf s n) → kindN (nodeOf s n) ≤ 5 → ⊥) → leftEvents s n ≡ []
-    left-none h = none-left (t .what n) n (parentOf (t .up n)) (ap isWind (what-node s ok n made) ∙ plain (nodeOf s n) h)
+    left-none h = no-wind false (t .what n) (orTop (t .up n)) (ap isWind (what-node s ok n made) ∙ plain (nodeOf s n) h)
 
     entered-wind : 4 ≤ kindN (nodeOf s n) → kindN (nodeOf s n) ≤ 5 → enteredEvents s n ≡ record { entering = true; thunk = varN (nodeOf s n); place = parentN (nodeOf s n) } ∷ []
     entered-wind l h =
-        ap (λ (w : What). entering w n (parentOf (t .up n))) (what-node s ok n made ∙ what-wind (nodeOf s n) l h)
-        ∙ ap (λ (o : Option ℕ). entering (wind (varN (nodeOf s n)) (postN (nodeOf s n))) n (parentOf o)) (parent l h)
+        ap (λ (w : What). windEvent true w (orTop (t .up n))) (what-node s ok n made ∙ what-wind (nodeOf s n) l h)
+        ∙ ap (λ (o : Option ℕ). windEvent true (wind (varN (nodeOf s n)) (postN (nodeOf s n))) (orTop o)) (parent l h)
 
     entered-none : (4 ≤ kindN (nodeOf s n) → kindN (nodeOf s n) ≤ 5 → ⊥) → enteredEvents s n ≡ []
-    entered-none h = none-entered (t .what n) n (parentOf (t .up n)) (ap isWind (what-node s ok n made) ∙ plain (nodeOf s n) h)
+    entered-none h = no-wind true (t .what n) (orTop (t .up n)) (ap isWind (what-node s ok n made) ∙ plain (nodeOf s n) h)
 
     -- a wind's event, put at its number
     module _ (low : 4 ≤ kindN (nodeOf s n)) (high : kindN (nodeOf s n) ≤ 5) (now after : List ℕ) where

@@ -13,11 +13,11 @@ use lib.ListN.{getD, length, drop, length-drop}
 use borrow.Author.Tests.{eqb-true, eqb-false, eq-eqb, ne-eqb}
 use mir.Syntax.{w32}
 use mir.Val.{SFits, toZ}
-use Rattle.rules.specs.Basic.{eqb-self}
+use Rattle.rules.specs.Basic.{eqb-self, orTop}
 use Rattle.rules.specs.Tree.{binding, wind}
 use Rattle.rules.specs.Values.{Cell, unbound, value}
 use Rattle.rules.specs.Store.{home, goto}
-use Rattle.rules.specs.Moves.{Move, parentOf, route, route-length, trace}
+use Rattle.rules.specs.Moves.{Move, route, route-length, trace}
 use Rattle.rules.specs.Route.{route-self}
 use Rattle.rules.specs.Calls.{deciderAt, decidedBy, valueAt, look-right, home-set, make, home-make, make-own, make-rest}
 use Rattle.rules.specs.Refusals.{setup}
@@ -271,8 +271,8 @@ module _ (s t : List ℕ) where
   unfolding parentAt
   top-events ok e =
       let none-up : view s .tree .up 0 ≡ none = top-up s ok in
-      ap (λ (f : ℕ). length (eventsFrom s f (parentOf (view s .tree .up f)))) e
-      ∙ ap (λ (o : Option ℕ). length (eventsFrom s 0 (parentOf o))) none-up
+      ap (λ (f : ℕ). length (eventsFrom s f (orTop (view s .tree .up f)))) e
+      ∙ ap (λ (o : Option ℕ). length (eventsFrom s 0 (orTop o))) none-up
       ∙ ap (λ (ms : List Move). length (trace (view s .tree) ms)) (route-self (view s .tree) (sound-view s ok .proper) 0)
 
   pub back-top : Sound s → focus s ≡ 0 → BackPromise s t s t (numbers Top)
@@ -314,4 +314,4 @@ module _ (v n : ℕ) (tops s : List ℕ) where
 -- below the top the focus's parent is the one that its record names
 pub parent-at : (s : List ℕ) → Sound s → focus s ≢ 0 → parentAt s ≡ parentN (nodeOf s (focus s))
 unfolding parentAt
-parent-at s ok low = ap parentOf (up-is s ok (focus s) (omega arith) (focus-made s ok))
+parent-at s ok low = ap orTop (up-is s ok (focus s) (omega arith) (focus-made s ok))

@@ -9,10 +9,11 @@ use Prim.Native.Nat.{ℕ, _*_, _/_, _≤_, _<_}
 use mathlib.Core.List.{List, [], _∷_}
 use lib.IntN.{ℤ, pos}
 use lib.ListN.{length, drop}
+use Rattle.rules.specs.Basic.{orTop}
 use Rattle.rules.specs.Tree.{What, binding, wind}
 use Rattle.rules.specs.Values.{Cell, unbound, value}
 use Rattle.rules.specs.Store.{Deep, home}
-use Rattle.rules.specs.Moves.{Move, Event, parentOf}
+use Rattle.rules.specs.Moves.{Move, Event}
 use Rattle.rules.specs.Calls.{valueAt, decidedBy}
 use Rattle.rules.specs.Refusals.{setup, damaged, noVariable, noEnvironment, noValue, full, traceRoom, atTop}
 use Rattle.rules.specs.Effects.{NewNode, SetTo}
@@ -26,7 +27,7 @@ use Rattle.layout.specs.Becomes.{Kept}
 use Rattle.layout.specs.Opening.{OpenFits}
 use Rattle.layout.specs.Events.{told}
 use Rattle.layout.specs.Events.{eventsTo}
-use Rattle.store.specs.Answers.{Numbers, refusal, seen}
+use Rattle.store.specs.Answers.{Numbers, refusal, done, seen}
 use Rattle.store.specs.Tables.{Row, row, Lowest}
 
 -- what a store means: the deep store of TR397's Figure 2, with the top values
@@ -53,7 +54,7 @@ pub record Answers (rows : List Row) (n : Numbers) (Same Done : Type 0) : Type 0
 
 -- done, with this answer, these moves and so many events
 abbrev pub Told : Numbers → ℤ → ℕ → ℕ → Type 0
-Told n o m e = n ≡ record { code = 0; out = o; moves = m; events = e; by = none }
+Told n o m e = n ≡ done o m e
 
 -- done, with the value of x at a and the number of its decider
 abbrev pub Shows : List ℕ → ℕ → ℕ → Numbers → Type 0
@@ -170,7 +171,7 @@ Switches s t a s′ t′ rows n = Answers rows n ((s′ ≡ s) × (t′ ≡ t)) 
 
 -- the focus's parent
 unfoldable pub parentAt : List ℕ → ℕ
-parentAt s = parentOf (view s .tree .up (focus s))
+parentAt s = orTop (view s .tree .up (focus s))
 
 pub record GotoPromise (s t : List ℕ) (a : ℕ) (s′ t′ : List ℕ) (n : Numbers) : Type 0 where
   pub answers : Switches s t a s′ t′ (damagedRow s ∷ environmentRow s a ∷ roomRow t (eventsTo s a) ∷ []) n

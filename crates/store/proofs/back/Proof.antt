@@ -3,7 +3,6 @@ use mathlib.Core.Path.{_≡_, sym, ap, _∙_}
 use mathlib.Core.Logic.{_≢_}
 use native.Mathlib.Omega.{arith}
 use mathlib.Core.Option.{Option}
-use Rattle.rules.specs.Moves.{parentOf}
 use Rattle.layout.specs.Records.{focus, nodeOf, parentN}
 use Rattle.layout.specs.Sound.{Sound}
 use Rattle.layout.specs.SoundLaws.{sound-fit}

@@ -5,7 +5,7 @@ use Rattle.layout.specs.Limits.{eventSize}
 use Rattle.layout.specs.Bytes.{splice}
 use Rattle.layout.specs.Records.{focus}
 use Rattle.layout.specs.Writes.{windB}
-use Rattle.layout.specs.Routes.{eventD}
+use Rattle.layout.specs.Events.{eventD}
 use Rattle.layout.specs.EventLaws.{told-first, told-entered}
 use Rattle.store.specs.declared.Answer.the-variants.{Made}
 use Rattle.store.specs.Promises.{entering}

@@ -3,7 +3,7 @@ use mathlib.Core.Path.{refl}
 use native.Mathlib.Omega.{arith}
 use borrow.Author.Needs.{needs}
 use Rattle.layout.specs.Bytes.{lent-at}
-use Rattle.layout.specs.Routes.{eventD}
+use Rattle.layout.specs.Events.{eventD}
 use Rattle.store.proofs.trace.note.Statement.{statement}
 use Rattle.store.proofs.trace.note.Tie as tie
 
