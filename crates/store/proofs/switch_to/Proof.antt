@@ -9,6 +9,16 @@ use borrow.Author.Needs.{needs}
 use Rattle.store.proofs.switch_to.Statement.{statement}
 use Rattle.store.proofs.switch_to.Tie as tie
 
+-- from behind a call back to behind the one before it, and from the first to the start
+abbrev walked : tie.After-walk → tie.After-tell
+walked c = c .before .before .before .before
+
+abbrev told : tie.After-tell → tie.After-survey
+told c = c .before .before .before .before
+
+abbrev start : tie.After-survey → tie.Start
+start c = c .before .before .before .before
+
 survey-requires : tie.Need-survey-requires
 survey-requires c κs = search needs
 
@@ -26,25 +36,25 @@ walk-requires : tie.Need-walk-requires
 walk-requires c κs = search needs
 
 cast-t19 : tie.Need-cast-t19
-cast-t19 c = let st = c .before .before .before .before .before .before .before .before .before .before .before .before .before .before in record { fits = omega (arith, made-room _ (st .pre .0) _ (st .pre .1), sound-fit _ (st .pre .0) .n) }
+cast-t19 c = let (ok, made) = start (told (walked (c .before .before))) .pre in record { fits = omega (arith, made-room _ ok _ made, sound-fit _ ok .n) }
 
 cast-t20 : tie.Need-cast-t20
 cast-t20 c =
-    let survey = c .before .before .before .before .before .before .before .before .before .before .before in
-    let st = survey .before .before .before .before in
-    record { fits = omega (arith, survey .survey .ensures .1 .0, few-moves _ (st .pre .0) _ (st .pre .1)) }
+    let survey = told (walked (c .before .before .before)) in
+    let (ok, made) = start survey .pre in
+    record { fits = omega (arith, survey .survey .ensures .1 .0, few-moves _ ok _ made) }
 
 cast-t21 : tie.Need-cast-t21
 cast-t21 c =
-    let survey = c .before .before .before .before .before .before .before .before .before .before .before in
-    let st = survey .before .before .before .before in
-    record { fits = omega (arith, survey .survey .ensures .1 .1, few-events _ (st .pre .0) _ (st .pre .1)) }
+    let survey = told (walked (c .before .before .before)) in
+    let (ok, made) = start survey .pre in
+    record { fits = omega (arith, survey .survey .ensures .1 .1, few-events _ ok _ made) }
 
 same-length-2 : tie.Need-same-length-2
 same-length-2 c = c .before .before .before .walk .ensures .kept .long
 
 same-length-3 : tie.Need-same-length-3
-same-length-3 c = c .before .before .before .before .before .before .before .tell .kept .1 .0
+same-length-3 c = walked (c .before .before .before) .tell .kept .1 .0
 
 returns-2 : tie.Need-returns-2
 unfolding roomFor
