@@ -122,6 +122,16 @@ int32_t chance_value(void)
     }
 }
 
+/* A thunk's number: its least and its largest often. */
+static uint16_t chance_thunk(void)
+{
+    switch (chance(4)) {
+    case 0: return 0;
+    case 1: return 65535;
+    default: return (uint16_t)chance(65536);
+    }
+}
+
 void chance_bytes(uint8_t *to, size_t len)
 {
     while (len-- > 0)
@@ -198,8 +208,8 @@ struct call chance_call(const struct model *m)
     c.x = chance_near(m->vars);
     c.a = chance_near(m->made);
     c.v = chance_value();
-    c.p = (uint16_t)chance(65536);
-    c.q = (uint16_t)chance(65536);
+    c.p = chance_thunk();
+    c.q = chance_thunk();
     return c;
 }
 
@@ -292,8 +302,8 @@ static void chance_node(struct model *m, unsigned n)
     node->parent = chance(3) == 0 ? chance(n) : n - 1;
     node->wind = chance(3) == 0;
     if (node->wind) {
-        node->prelude = chance(65536);
-        node->postlude = chance(65536);
+        node->prelude = chance_thunk();
+        node->postlude = chance_thunk();
     } else {
         node->var = chance(m->vars);
         node->own = chance_cell();

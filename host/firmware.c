@@ -7,10 +7,10 @@
 
 enum { DIRECTION, VARIABLES };
 enum { BRAKE_OFF, BRAKE_ON, THUNKS };
-enum { ENVIRONMENTS = 16, EVENTS = 4, TOP_PLACE = 0 };
+enum { ENVIRONMENTS = 16, TOP_PLACE = 0 };
 
 static uint8_t store[KN_SIZE(VARIABLES, ENVIRONMENTS)];
-static uint8_t trace[EVENTS * KN_EVENT_BYTES];
+static uint8_t trace[KN_TRACE_SIZE(ENVIRONMENTS)];
 static int turns;
 
 /* ---- Thunks ---- */
@@ -20,14 +20,14 @@ static void brake_on(void) { puts("brake on"); }
 
 static void (*const thunks[THUNKS])(void) = { brake_off, brake_on };
 
-static void run_thunks(uint32_t events)
+static void run_thunks(unsigned events)
 {
-    const uint8_t *e = trace;
+    unsigned i;
 
-    for (; events > 0; events--, e += KN_EVENT_BYTES) {
-        unsigned thunk = e[1] | (unsigned)e[2] << 8;
-        if (thunk < THUNKS)
-            thunks[thunk]();
+    for (i = 0; i < events; i++) {
+        kn_event e = kn_event_read(trace, i);
+        if (e.thunk < THUNKS)
+            thunks[e.thunk]();
     }
 }
 
@@ -58,10 +58,11 @@ static void turn(unsigned times)
 
 int main(void)
 {
-    static const uint8_t forward[VARIABLES * KN_CELL_BYTES] = { 1, 1, 0, 0, 0 };
+    uint8_t tops[VARIABLES * KN_CELL_BYTES];
     uint32_t untwisting;
 
-    must(kn_open(VARIABLES, ENVIRONMENTS, forward, sizeof forward,
+    kn_top_value(tops, DIRECTION, 1);
+    must(kn_open(VARIABLES, ENVIRONMENTS, tops, sizeof tops,
                  store, sizeof store));
     turn(5);
     must(kn_wind(store, sizeof store, trace, sizeof trace,

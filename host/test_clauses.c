@@ -32,6 +32,12 @@ static void base_store(struct model *m, unsigned vars, unsigned nodes)
     memcpy(m->node + 1, five, sizeof five);
 }
 
+static void put16(unsigned at, unsigned n)
+{
+    store.bytes[at] = (uint8_t)n;
+    store.bytes[at + 1] = (uint8_t)(n >> 8);
+}
+
 static void lend(const struct model *m, size_t spare)
 {
     lent_take(&store, KN_SIZE(m->vars, m->nodes) + spare);
@@ -152,10 +158,8 @@ static void laid_out(unsigned vars, unsigned nodes)
     memcpy(store.bytes, within, KN_HEADER_BYTES);
     memcpy(store.bytes + KN_SIZE(vars, 0), within + NODE(0),
            (nodes < NODES ? nodes : NODES) * (size_t)KN_NODE_BYTES);
-    store.bytes[HEAD_VARS] = (uint8_t)vars;
-    store.bytes[HEAD_VARS + 1] = (uint8_t)(vars >> 8);
-    store.bytes[HEAD_NODES] = (uint8_t)nodes;
-    store.bytes[HEAD_NODES + 1] = (uint8_t)(nodes >> 8);
+    put16(HEAD_VARS, vars);
+    put16(HEAD_NODES, nodes);
 }
 
 static void out_of_range(const char *name, unsigned vars, unsigned nodes)
@@ -198,8 +202,7 @@ static void focus_not_made(const char *name, unsigned focus)
     base_store(&m, VARS, NODES);
     m.focus = 0;
     lend(&m, 0);
-    store.bytes[HEAD_FOCUS] = (uint8_t)focus;
-    store.bytes[HEAD_FOCUS + 1] = (uint8_t)(focus >> 8);
+    put16(HEAD_FOCUS, focus);
     every_call_refuses();
 }
 
@@ -214,6 +217,54 @@ static void others_are_in(void)
     store.bytes[NODE(3) + KIND] = 2;
     store.bytes[NODE(4) + KIND] = 3;
     every_call_refuses();
+}
+
+/* ---- Nodes that are their own parent, at every number ---- */
+
+enum { LAST = KN_MAX_NODES - 1 };
+
+/* All environments in one line. */
+static void lend_line(struct model *m, unsigned focus)
+{
+    unsigned n;
+
+    base_store(m, VARS, KN_MAX_NODES);
+    m->made = KN_MAX_NODES;
+    m->focus = focus;
+    for (n = 1; n < KN_MAX_NODES; n++) {
+        m->node[n].wind = n % 3 == 0;
+        m->node[n].parent = n - 1;
+    }
+    lend(m, 0);
+}
+
+static int here_refuses(void)
+{
+    return check_answer(kn_here(store.bytes, store.len), refused(KN_DAMAGED), "here");
+}
+
+/* Asked by here first, which moves nothing and climbs from the focus alone.
+   Answers whether all is good, so that nothing runs on and on after it. */
+static int own_parents(const char *name, unsigned focus)
+{
+    static struct model m;
+    unsigned n;
+    int good = 1;
+
+    check_name(name);
+    lend_line(&m, focus);
+    check(model_sound(store.bytes, store.len), "sound before");
+    for (n = 1; n <= LAST; n++) {
+        put16(NODE(n) + PARENT, n);
+        good &= here_refuses();
+        put16(NODE(n) + PARENT, n - 1);
+    }
+    for (n = 1; good && n <= LAST; n++) {
+        put16(NODE(n) + PARENT, n);
+        every_call_refuses();
+        put16(NODE(n) + PARENT, n - 1);
+    }
+    return good;
 }
 
 static void the_base_is_sound(void)
@@ -244,6 +295,8 @@ void test_clauses(void)
     out_of_range("N is 2,049", VARS, KN_MAX_NODES + 1);
     made_above_nodes();
     others_are_in();
+    if (own_parents("each node off the path is its own parent", 0))
+        own_parents("each node on the path is its own parent", LAST);
     focus_not_made("the focus is made", 6);
     focus_not_made("the focus is N", NODES);
     focus_not_made("the focus is 65,535", 65535);

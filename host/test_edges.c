@@ -272,6 +272,29 @@ static void resumed_postlude(void)
     check_answer(go(1), done(1, 0, 0), "and not entered again");
 }
 
+/* ---- Thunks ---- */
+
+/* Four winds, one in the other, with each pair of the two numbers. */
+static void thunks_at_their_ends(void)
+{
+    static const uint16_t ends[2] = { 0, 65535 };
+    unsigned n;
+
+    check_name("thunks of 0 and 65,535, on both sides");
+    opened(1, 5, KN_SIZE(1, 5));
+    lent_take(&trace, 4 * KN_EVENT_BYTES);
+    for (n = 0; n < 4; n++) {
+        check_answer(wind(ends[n / 2], ends[n % 2]), done((int32_t)n + 1, 0, 1), "made");
+        event_is(0, KN_ENTERING, ends[n / 2], n);
+    }
+    check_answer(go(0), done(0, 4, 4), "all left");
+    for (n = 0; n < 4; n++)
+        event_is(3 - n, KN_LEAVING, ends[n % 2], n);
+    check_answer(go(4), done(4, 4, 4), "all entered");
+    for (n = 0; n < 4; n++)
+        event_is(n, KN_ENTERING, ends[n / 2], n);
+}
+
 /* ---- Open's other edges ---- */
 
 static void no_setup(uint32_t vars, uint32_t nodes, const uint8_t *tops,
@@ -328,6 +351,7 @@ void test_edges(void)
     shortest_way();
     room_before_moves();
     resumed_postlude();
+    thunks_at_their_ends();
     top_cells();
     not_cut_off();
 }

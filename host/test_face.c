@@ -17,6 +17,8 @@ static void header_constants(void)
           "kn_limit past the last");
     check(KN_SIZE(1, 4) == 61, "KN_SIZE(1, 4)");
     check(KN_SIZE(256, 2048) == 25864, "KN_SIZE at the limits");
+    check(KN_TRACE_SIZE(2048) == 10235 && KN_TRACE_SIZE(1) == 0, "KN_TRACE_SIZE");
+    check(KN_STACK_SIZE(2048) == 98512, "KN_STACK_SIZE at the limits");
 }
 
 static void answer_numbers(void)
@@ -26,7 +28,7 @@ static void answer_numbers(void)
           && KN_NO_VARIABLE == 3 && KN_NO_ENVIRONMENT == 4
           && KN_UNBOUND == 5 && KN_FULL == 6 && KN_TRACE_ROOM == 7
           && KN_TOP == 8 && KN_LINE == 9, "enum kn_code");
-    check(KN_LEAVING == 0 && KN_ENTERING == 1, "enum kn_event");
+    check(KN_LEAVING == 0 && KN_ENTERING == 1, "enum kn_what");
 }
 
 /* A chain of two winds and a binding; going up it gives four numbers that

@@ -13,7 +13,9 @@
  *
  * Buffers.  A buffer is a pointer and its length in bytes, at any alignment.
  *   A length of 0 is allowed with any pointer, NULL too. A store buffer may be
- *   longer than the store: bytes past the size are never read or written.
+ *   longer than the store: bytes past the size are never read or written. A
+ *   buffer is lent until the call returns: a call from an interrupt or another
+ *   thread may meanwhile use another store and trace, not these.
  *
  * Answers.  Every call takes every input. The lowest code that applies is
  *   given. Beside a refusal's code all other numbers are 0, and no byte of
@@ -21,16 +23,35 @@
  *
  * Numbers.  vars, nodes, x and a are 32-bit: one that is too large is refused
  *   and never cut off. p and q are 16-bit and every one is good: C converts a
- *   larger number before the call.
+ *   larger number before the call. In store, top cells and trace numbers are
+ *   little endian.
  *
- * Stack.  A switch calls itself once for each environment that it enters, and
- *   leaves by a loop. At the limits no call needs more than 100 KiB;
- *   docs/FIGURES.md gives the measured need of each call.
+ * Memory.  KN_SIZE bytes of store, KN_TRACE_SIZE of trace, KN_STACK_SIZE of
+ *   stack. Stack by depth: goto and back take 48 bytes for each environment
+ *   that they leave or enter, and at most 256 more; any other call takes at
+ *   most 256. At the limits 25,864 + 10,235 + 98,512 = 134,611 bytes in all;
+ *   several stores can share one trace and one stack. No call needs more than
+ *   100 KiB of stack. (Measured on x86-64: docs/FIGURES.md.)
+ *
+ * Time.  Every call but open first reads the whole store; that is how damage
+ *   is found. So time grows with vars + nodes: on a PC, 26 KB of store take
+ *   about 1 microsecond with only the top made, and about 12 with 2,047
+ *   environments in one line, the focus at its end. Look and peek then climb
+ *   to the binding that decides; goto and back also move.
+ *
+ * After DAMAGED.  The call changed nothing, and every call will say the same
+ *   of these bytes. See first that pointer and length are those of the open.
+ *   If they are, something else wrote into the store, and nothing in it can be
+ *   trusted: open it anew and start its scripts again. Environment numbers
+ *   kept from before mean nothing then, and no postlude of a wind that was in
+ *   will be told: bring what it guards to a safe state yourself. Damage that
+ *   happens to leave a good store can't be noticed.
  *
  * Example: a direction bound around a place, left, and entered again.
  *
- *     static uint8_t store[KN_SIZE(1, 4)], trace[2 * KN_EVENT_BYTES];
- *     const uint8_t tops[KN_CELL_BYTES] = { 1, 1, 0, 0, 0 };
+ *     static uint8_t store[KN_SIZE(1, 4)], trace[KN_TRACE_SIZE(4)];
+ *     uint8_t tops[KN_CELL_BYTES];
+ *     kn_top_value(tops, 0, 1);
  *     kn_answer r = kn_open(1, 4, tops, sizeof tops, store, sizeof store);
  *     r = kn_bind(store, sizeof store, 0, -1);
  *     r = kn_wind(store, sizeof store, trace, sizeof trace, 10, 11);
@@ -39,8 +60,10 @@
  *     int32_t up = kn_look(store, sizeof store, 0).out;
  *     r = kn_goto(store, sizeof store, trace, sizeof trace, place);
  *     int32_t down = kn_look(store, sizeof store, 0).out;
+ *     kn_event e = kn_event_read(trace, 0);
  *
- * Then up is 1, down is -1, and r says: code 0, out 2, moves 2, events 1.
+ * Then up is 1, down is -1, r says: code 0, out 2, moves 2, events 1, and e
+ * says: KN_ENTERING, thunk 10, place 1.
  */
 #ifndef KESTRELNIB_H
 #define KESTRELNIB_H
@@ -63,11 +86,18 @@ enum kn_constant {
     KN_EVENT_BYTES  = 5     /* what (1), thunk (2), place (2)              */
 };
 
-/* Bytes of a store. All numbers in it are little endian. */
+/* Bytes of a store. */
 #define KN_SIZE(vars, nodes)                   \
     ((size_t)KN_HEADER_BYTES                   \
      + (size_t)KN_CELL_BYTES * (size_t)(vars)  \
      + (size_t)KN_NODE_BYTES * (size_t)(nodes))
+
+/* Bytes of a trace that has room for every call's events: no call moves an
+   environment twice, and the top never. */
+#define KN_TRACE_SIZE(nodes) ((size_t)KN_EVENT_BYTES * ((size_t)(nodes) - 1))
+
+/* Bytes of stack that the deepest call needs, its caller's frame not counted. */
+#define KN_STACK_SIZE(nodes) ((size_t)256 + (size_t)48 * ((size_t)(nodes) - 1))
 
 /* ---- Answers ------------------------------------------------------------ */
 
@@ -96,11 +126,12 @@ typedef struct kn_answer {
 
 /* ---- The trace ---------------------------------------------------------- */
 
-/* Events stand from the buffer's start, KN_EVENT_BYTES each: what happens,
-   the thunk's number, the place where it is to run. Its room is the length
-   divided by KN_EVENT_BYTES, rounded down; bytes after the written events
-   keep their contents. Running the thunks, in order, is up to you. */
-enum kn_event {
+/* Events stand from the buffer's start, KN_EVENT_BYTES each: what happens
+   (1 byte), the thunk's number (2), the place where it is to run (2). Its room
+   is the length divided by KN_EVENT_BYTES, rounded down; bytes after the
+   written events keep their contents. Running the thunks, in order, is up to
+   you. */
+enum kn_what {
     KN_LEAVING  = 0, /* thunk: the postlude                                */
     KN_ENTERING = 1  /* thunk: the prelude                                 */
 };
@@ -108,12 +139,52 @@ enum kn_event {
 /* Both are told at the wind's parent: the wind has been left by then, or is
    not yet entered. A thunk that keeps its place and is resumed there moves
    nothing. */
+typedef struct kn_event {
+    uint16_t what, thunk, place;
+} kn_event;
+
+/* Event i of a trace, from 0; there are as many as the answer's events. */
+static inline kn_event kn_event_read(const uint8_t *trace, size_t i)
+{
+    const uint8_t *from = trace + i * KN_EVENT_BYTES;
+    kn_event e;
+
+    e.what = from[0];
+    e.thunk = (uint16_t)(from[1] | from[2] << 8);
+    e.place = (uint16_t)(from[3] | from[4] << 8);
+    return e;
+}
+
+/* ---- Top cells ---------------------------------------------------------- */
+
+/* Top values are handed to open as cells of KN_CELL_BYTES, one a variable:
+   state, then the value. These write the cell of x. */
+
+static inline void kn_top_value(uint8_t *tops, size_t x, int32_t v)
+{
+    uint8_t *cell = tops + x * KN_CELL_BYTES;
+    uint32_t bits = (uint32_t)v;
+
+    cell[0] = 1;
+    cell[1] = (uint8_t)bits;
+    cell[2] = (uint8_t)(bits >> 8);
+    cell[3] = (uint8_t)(bits >> 16);
+    cell[4] = (uint8_t)(bits >> 24);
+}
+
+static inline void kn_top_none(uint8_t *tops, size_t x)
+{
+    size_t at = x * KN_CELL_BYTES, end = at + KN_CELL_BYTES;
+
+    while (at < end)
+        tops[at++] = 0;
+}
 
 /* ---- Opening ------------------------------------------------------------ */
 
 /* Writes a new store: only the top is made and is the focus. The top values
-   come as vars cells, tops_len = vars * KN_CELL_BYTES exactly; an unbound
-   cell is all zero. Answers 0. Refusals: SETUP. */
+   come as vars top cells, tops_len = vars * KN_CELL_BYTES exactly. Answers 0.
+   Refusals: SETUP. */
 kn_answer kn_open(uint32_t vars, uint32_t nodes,
                   const uint8_t *tops, size_t tops_len,
                   uint8_t *store, size_t store_len);
