@@ -21,7 +21,7 @@ use Rattle.rules.specs.Refusals.{lowest, setup, damaged, noVariable, noEnvironm
 use Rattle.rules.specs.Act.{Call, bind, wind, look, set, here, goto, back, peek, isMade, nextNumber, isFull, shown, backTo, eventsOf, rows, answerOf, changed, outcome, act, run}
 use Rattle.layout.specs.Limits.{maxVars, maxNodes, bareSize, sizeOf}
 use Rattle.layout.specs.Bytes.{part, u16}
-use Rattle.layout.specs.Records.{headOf, vars, room, made, blankCell, ProperCell, bitsC, bareC, topC}
+use Rattle.layout.specs.Records.{headOf, headN, vars, room, made, blankCell, ProperCell, bitsC, bareC, topC}
 use Rattle.layout.specs.View.{asCell}
 use Rattle.layout.specs.Sound.{Sound}
 use Rattle.layout.specs.Made.{IsFull}
@@ -164,7 +164,7 @@ first-bind v tops s s′ n o x w s″ m known p = go (p .answers .lowest .exact)
 
 -- ---- (d): a store of 61 bytes lent with 60
 short : (tops s s′ : List ℕ) (n : Numbers) → Opened 1 4 tops s s′ n → Sound (take 60 s′) → ⊥
-unfolding vars room headOf
+unfolding headN headOf
 short tops s s′ n o ok =
     let head = part-take s′ 60 0 8 (omega arith) in
     let v : vars (take 60 s′) ≡ 1 = ap (λ (h : List ℕ). u16 h 0) head ∙ o .vars in

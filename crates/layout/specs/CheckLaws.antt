@@ -20,11 +20,11 @@ use Rattle.layout.specs.Limits.{nodeSize, nodeAt}
 use Rattle.layout.specs.Bytes.{part, part-at, part-length}
 use Rattle.layout.specs.Records.{vars, room, made, nodeOf, kindN, parentN, topNode, blankNode}
 use Rattle.layout.specs.Kinds.{isIn}
-use Rattle.layout.specs.Fields.{Fields, fieldsOf, Fit}
+use Rattle.layout.specs.Fields.{Fields, fieldsOf, Fit, madeF, focusF}
 use Rattle.layout.specs.View.{upN, treeF}
-use Rattle.layout.specs.Sound.{Says, Shape, Ins, BlanksOk}
+use Rattle.layout.specs.Sound.{Says, Shape, Ins}
 use Rattle.layout.specs.Laws.{node-in, OfBuffer}
-use Rattle.layout.specs.SoundLaws.{up-inner, up-top, shape-proper, outer-modes, is-top}
+use Rattle.layout.specs.SoundLaws.{BlanksOk, shape-inners, up-inner, up-top, shape-proper, modes-by-numbers}
 
 -- ---- tests
 pub says-map : (b : Bool) {P Q : Type 0} → (P → Q) → (Q → P) → Says b P → Says b Q
@@ -189,14 +189,14 @@ abbrev route : Fields → ℕ → List ℕ
 route f a = path (treeF (f .node)) a
 
 pub record Climbed (f : Fields) (a n : ℕ) : Type 0 where
-  pub made : a < f .made
-  pub bound : n + a ≤ f .focus
-  pub long : length (route f (f .focus)) ≡ n + length (route f a)
-  pub passed : (k : ℕ) → on k (route f (f .focus)) ≡ true → (on k (route f a) ≡ true) ⊎ (modeF f k ≡ true)
-  pub left : (k : ℕ) → on k (route f a) ≡ true → on k (route f (f .focus)) ≡ true
+  pub made : a < madeF f
+  pub bound : n + a ≤ focusF f
+  pub long : length (route f (focusF f)) ≡ n + length (route f a)
+  pub passed : (k : ℕ) → on k (route f (focusF f)) ≡ true → (on k (route f a) ≡ true) ⊎ (modeF f k ≡ true)
+  pub left : (k : ℕ) → on k (route f a) ≡ true → on k (route f (focusF f)) ≡ true
 
 module _ (f : Fields) (buffer : OfBuffer f) (ok : Shape f) where
-  route-up : (a : ℕ) → 1 ≤ a → a < f .made → route f a ≡ a ∷ route f (parentN (f .node a))
+  route-up : (a : ℕ) → 1 ≤ a → a < madeF f → route f a ≡ a ∷ route f (parentN (f .node a))
   unfolding treeF
   route-up a l h = path-up (treeF (f .node)) (shape-proper f buffer ok) a (parentN (f .node a)) (up-inner f buffer ok a l h)
 
@@ -205,11 +205,11 @@ module _ (f : Fields) (buffer : OfBuffer f) (ok : Shape f) where
   route-top = path-top (treeF (f .node)) (shape-proper f buffer ok) 0 (ap upN (ok .top) ∙ up-top)
 
   -- a path lies below made
-  route-made : (k : ℕ) → on k (route f (f .focus)) ≡ true → k < f .made
+  route-made : (k : ℕ) → on k (route f (focusF f)) ≡ true → k < madeF f
   unfolding treeF
-  route-made k h = omega (arith, on-path-rank (treeF (f .node)) (shape-proper f buffer ok) (f .focus) k h, ok .head .focus-made)
+  route-made k h = omega (arith, on-path-rank (treeF (f .node)) (shape-proper f buffer ok) (focusF f) k h, ok .head .focus-made)
 
-  pub climb-start : Climbed f (f .focus) 0
+  pub climb-start : Climbed f (focusF f) 0
   climb-start = record {
     made = ok .head .focus-made;
     bound = omega arith;
@@ -224,12 +224,12 @@ module _ (f : Fields) (buffer : OfBuffer f) (ok : Shape f) where
     climb-out o i =
         let r = route-up a inner (c .made) in
         let h : on a (route f a) ≡ true = rw r (on-head a (route f (parentN (f .node a)))) in
-        clash (i a inner (c .made) ∙ c .left a h) o
+        clash (i a ∙ c .left a h) o
 
     pub climb-on : modeF f a ≡ true → Climbed f (parentN (f .node a)) (n + 1)
     climb-on o =
         let r = route-up a inner (c .made) in
-        let u = ok .nodes a inner (c .made) .parent in
+        let u = shape-inners f ok a inner (c .made) .parent in
         record {
           made = omega (arith, c .made);
           bound = omega (arith, c .bound);
@@ -243,33 +243,26 @@ module _ (f : Fields) (buffer : OfBuffer f) (ok : Shape f) where
         go k (inl h) = ⊎-elim (λ e. inr (ap (modeF f) e ∙ o)) inl (on-cases k a (route f (parentN (f .node a))) (rw (route-up a inner (c .made)) at h))
 
   -- all of the path was passed: exactly the path is in where as many are in as were passed
-  pub climb-end : (n : ℕ) → Climbed f 0 n → Says (eqb n (count (modeF f) (f .made))) (Ins f)
-  climb-end n c = says-map (eqb n (count (modeF f) (f .made))) exactly counted (says-eq n (count (modeF f) (f .made)))
+  pub climb-end : (n : ℕ) → Climbed f 0 n → Says (eqb n (count (modeF f) (madeF f))) (Ins f)
+  climb-end n c = says-map (eqb n (count (modeF f) (madeF f))) exactly counted (says-eq n (count (modeF f) (madeF f)))
     where
-      once : Once (route f (f .focus))
-      once = path-once (treeF (f .node)) (shape-proper f buffer ok) (f .focus)
+      once : Once (route f (focusF f))
+      once = path-once (treeF (f .node)) (shape-proper f buffer ok) (focusF f)
 
-      long : length (route f (f .focus)) ≡ n
+      long : length (route f (focusF f)) ≡ n
       long = omega (arith, c .long, ap length route-top)
 
-      ins : (k : ℕ) → on k (route f (f .focus)) ≡ true → modeF f k ≡ true
+      ins : (k : ℕ) → on k (route f (focusF f)) ≡ true → modeF f k ≡ true
       ins k h = ⊎-elim (λ e. clash e (ap (on k) route-top)) (λ m. m) (c .passed k h)
 
-      exactly : n ≡ count (modeF f) (f .made) → Ins f
-      exactly e k l h = modes-by-count (modeF f) (route f (f .focus)) (f .made) once route-made ins (sym e ∙ sym long) k h
+      exactly : n ≡ count (modeF f) (madeF f) → Ins f
+      exactly e = modes-by-numbers f buffer ok (λ k l h. modes-by-count (modeF f) (route f (focusF f)) (madeF f) once route-made ins (sym e ∙ sym long) k h)
 
-      all : Ins f → (k : ℕ) → k < f .made → modeF f k ≡ on k (route f (f .focus))
-      all i k h = go (ℕ-discrete k 0)
-        where
-          go : Dec (k ≡ 0) → modeF f k ≡ on k (route f (f .focus))
-          go (yes e) = outer-modes f buffer ok k (ap (λ (m : ℕ). upN (f .node m)) e ∙ ap upN (ok .top) ∙ up-top) (is-top e)
-          go (no e) = i k (omega arith) h
-
-      counted : Ins f → n ≡ count (modeF f) (f .made)
+      counted : Ins f → n ≡ count (modeF f) (madeF f)
       counted i =
           sym long
-          ∙ sym (count-on (route f (f .focus)) (f .made) once route-made)
-          ∙ sym (count-same (modeF f) (λ k. on k (route f (f .focus))) (f .made) (all i))
+          ∙ sym (count-on (route f (focusF f)) (madeF f) once route-made)
+          ∙ sym (count-same (modeF f) (λ k. on k (route f (focusF f))) (madeF f) (λ k h. i k))
 
 -- the two ways out of `if b { return ..; }`
 pub says-yes : (b : Bool) {P : Type 0} → b ≡ true → Says b P → P

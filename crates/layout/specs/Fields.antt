@@ -1,4 +1,4 @@
--- What a buffer says, record by record: the header's numbers, the cells by variable, the nodes by number.
+-- What a buffer says, record by record: the header's numbers by their place, the cells by variable, the nodes by number.
 -- Past V a cell is blank, past N a node is, so no byte past the size is spoken of. Assumes nothing: these are definitions.
 use mathlib.Core.Bool.{cond}
 use Prim.Native.Nat.{ℕ, _≤_}
@@ -6,15 +6,24 @@ use mathlib.Core.List.{List}
 use lib.Dec.{ltb}
 use lib.ListN.{length, drop}
 use Rattle.layout.specs.Limits.{maxVars, maxNodes, sizeOf}
-use Rattle.layout.specs.Records.{vars, room, made, focus, cellOf, nodeOf, blankCell, blankNode}
+use Rattle.layout.specs.Records.{headN, vars, room, cellOf, nodeOf, blankCell, blankNode}
 
 pub record Fields : Type 0 where
-  pub vars : ℕ
-  pub room : ℕ
-  pub made : ℕ
-  pub focus : ℕ
+  pub head : ℕ → ℕ
   pub cell : ℕ → List ℕ
   pub node : ℕ → List ℕ
+
+abbrev pub varsF : Fields → ℕ
+varsF f = f .head 0
+
+abbrev pub roomF : Fields → ℕ
+roomF f = f .head 1
+
+abbrev pub madeF : Fields → ℕ
+madeF f = f .head 2
+
+abbrev pub focusF : Fields → ℕ
+focusF f = f .head 3
 
 unfoldable pub cells : List ℕ → ℕ → List ℕ
 cells s x = cond (ltb x (vars s)) (cellOf s x) blankCell
@@ -23,7 +32,7 @@ unfoldable pub nodes : List ℕ → ℕ → List ℕ
 nodes s n = cond (ltb n (room s)) (nodeOf s n) blankNode
 
 unfoldable pub fieldsOf : List ℕ → Fields
-fieldsOf s = record { vars = vars s; room = room s; made = made s; focus = focus s; cell = cells s; node = nodes s }
+fieldsOf s = record { head = headN s; cell = cells s; node = nodes s }
 
 -- the numbers are in range from above, and the buffer is long enough
 pub record Fit (s : List ℕ) : Type 0 where

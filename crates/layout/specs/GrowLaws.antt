@@ -20,16 +20,16 @@ use Rattle.rules.specs.Grow.{grow, Growable}
 use Rattle.rules.specs.Calls.{setCell, set-sound, make, make-binding, make-sound}
 use Rattle.layout.specs.Limits.{cellSize, bareSize, nodeSize}
 use Rattle.layout.specs.Records.{vars, room, made, focus, withFocus, withMade, blankCell, ProperCell, valueC, cellOf, withCell, bareC, putC, withNode, kindN, parentN, varN, postN, storedN, nodeB}
-use Rattle.layout.specs.Kinds.{isIn}
+use Rattle.layout.specs.Kinds.{isIn, IsBinding, IsWind, not-both}
 use Rattle.layout.specs.Fields.{Fields, cells, nodes, fieldsOf, Fit}
 use Rattle.layout.specs.View.{asCell, whatN, upN, treeF, viewF, view}
 use Rattle.layout.specs.Sound.{NodeOk, HeadOk, Shape, Sound}
 use Rattle.layout.specs.Writes.{setB, growB, bindB, windB}
 use Rattle.layout.specs.Made.{nextOf, IsFull}
 use Rattle.layout.specs.Becomes.{Becomes}
-use Rattle.layout.specs.Laws.{of-buffer, cell-in, Wrote, nodeF, cellF, focusF, madeF, fields-numbers, wrote-node, wrote-cell, wrote-focus, wrote-made, wrote-fit, then}
+use Rattle.layout.specs.Laws.{of-buffer, cell-in, Wrote, nodeF, cellF, headF, fields-number, wrote-node, wrote-cell, wrote-head, wrote-fit, then}
 use Rattle.layout.specs.RecordLaws.{put-length, bare-length, value-length, node-length, bare-put, node-kind, node-parent, node-var, node-post, node-stored, as-blank, as-value}
-use Rattle.layout.specs.SoundLaws.{what-binding, what-wind, what-blank, up-node, blank-node, not-blank, sound-fit, sound-view}
+use Rattle.layout.specs.SoundLaws.{what-binding, what-wind, what-blank, up-node, blank-node, not-blank, sound-fit, sound-view, shape-inners, shape-blanks, shape-by-numbers}
 use Rattle.layout.specs.MoveLaws.{through, becomes}
 
 -- ---- the cell of x takes the value v
@@ -76,7 +76,7 @@ module _ (s : List ℕ) (ok : Sound s) (x : ℕ) (known : x < vars s) (v : ℤ) 
         cells = put-proper (cells s) (vars s) x _ (sh .cells) (rw (taken-bare s (sound-fit s ok) x known v) (proper-value v));
         top = sh .top;
         nodes = sh .nodes;
-        blanks = sh .blanks;
+        no-gap = sh .no-gap;
       })
       (λ i. record {
         tree = treeF (nodes s);
@@ -93,7 +93,7 @@ module _ (s : List ℕ) (ok : Sound s) (space : made s < room s) (p : List ℕ) 
 
   -- with the cells c
   abbrev withCells : (ℕ → List ℕ) → Fields
-  withCells c = record { vars = vars s; room = room s; made = m + 1; focus = m; cell = c; node = upd (nodes s) m p }
+  withCells c = record { head = headF 3 m (headF 2 (m + 1) (fieldsOf s)) .head; cell = c; node = upd (nodes s) m p }
 
   wrote-grow : Wrote s (growB s p) (withCells (cells s))
   unfolding growB fieldsOf
@@ -102,34 +102,33 @@ module _ (s : List ℕ) (ok : Sound s) (space : made s < room s) (p : List ℕ) 
       let t : List ℕ = withNode s m p in
       let a : Wrote s t (nodeF m p (fieldsOf s)) = wrote-node s m p fit space long in
       let fit₁ : Fit t = wrote-fit a refl refl fit in
-      let b : Wrote s (withMade t (m + 1)) (madeF (m + 1) (nodeF m p (fieldsOf s))) =
-      subst (λ (f : Fields). Wrote s (withMade t (m + 1)) (madeF (m + 1) f)) (a .fields) (then a (wrote-made t (m + 1) fit₁)) in
+      let b : Wrote s (withMade t (m + 1)) (headF 2 (m + 1) (nodeF m p (fieldsOf s))) =
+      subst (λ (f : Fields). Wrote s (withMade t (m + 1)) (headF 2 (m + 1) f)) (a .fields) (then a (wrote-head t 2 (m + 1) fit₁ (omega arith) (omega arith))) in
       let fit₂ : Fit (withMade t (m + 1)) = wrote-fit b refl refl fit in
-      subst (λ (f : Fields). Wrote s (withFocus (withMade t (m + 1)) m) (focusF m f)) (b .fields) (then b (wrote-focus (withMade t (m + 1)) m fit₂))
+      subst (λ (f : Fields). Wrote s (withFocus (withMade t (m + 1)) m) (headF 3 m f)) (b .fields) (then b (wrote-head (withMade t (m + 1)) 3 m fit₂ (omega arith) (omega arith)))
 
   grown-shape : NodeOk (vars s) m p → (c : ℕ → List ℕ) → ((y : ℕ) → y < vars s → ProperCell (bareC (c y))) → Shape (withCells c)
   unfolding fieldsOf
   grown-shape good c proper =
       let sh : Shape (fieldsOf s) = ok .fields .shape in
-      record {
-        head = record {
-          vars-low = sh .head .vars-low;
-          vars-high = sh .head .vars-high;
-          room-low = sh .head .room-low;
-          room-high = sh .head .room-high;
-          made-low = omega arith;
-          made-high = omega arith;
-          focus-made = omega arith;
-        };
-        cells = proper;
-        top = upd-other (nodes s) m 0 p (λ e. omega (arith, sh .head .made-low)) ∙ sh .top;
-        nodes = λ n l h. node n l h (ℕ-discrete n m);
-        blanks = λ n l h. upd-other (nodes s) m n p (λ e. omega arith) ∙ sh .blanks n (omega arith) h;
-      }
+      shape-by-numbers (withCells c)
+      (record {
+        vars-low = sh .head .vars-low;
+        vars-high = sh .head .vars-high;
+        room-low = sh .head .room-low;
+        room-high = sh .head .room-high;
+        made-low = omega arith;
+        made-high = omega arith;
+        focus-made = omega arith;
+      })
+      proper
+      (upd-other (nodes s) m 0 p (λ e. omega (arith, sh .head .made-low)) ∙ sh .top)
+      (λ n l h. node n l h (ℕ-discrete n m))
+      (λ n l h. upd-other (nodes s) m n p (λ e. omega arith) ∙ shape-blanks (fieldsOf s) sh n (omega arith) h)
     where
       node : (n : ℕ) → 1 ≤ n → n < m + 1 → Dec (n ≡ m) → NodeOk (vars s) n (upd (nodes s) m p n)
       node n l h (yes e) = rw (e, upd-same) good
-      node n l h (no e) = rw (upd-other (nodes s) m n p e) (ok .fields .shape .nodes n l (omega arith))
+      node n l h (no e) = rw (upd-other (nodes s) m n p e) (shape-inners (fieldsOf s) (ok .fields .shape) n l (omega arith))
 
   -- the tree has one node more, in
   grown-seen : (c : ℕ → List ℕ) (w : What) → whatN p ≡ w → upN p ≡ some (focus s) → isIn (kindN p) ≡ true
@@ -173,7 +172,8 @@ module _ (s : List ℕ) (ok : Sound s) (space : IsFull s → ⊥) where
   grown-fit p long = wrote-fit (wrote-grow s ok (space-left s ok space) p long) refl refl (sound-fit s ok)
 
   pub grown-vars : (p : List ℕ) → length p ≡ nodeSize → vars (growB s p) ≡ vars s
-  grown-vars p long = fields-numbers (growB s p) (wrote-grow s ok (space-left s ok space) p long .fields) .0
+  unfolding fieldsOf
+  grown-vars p long = fields-number (growB s p) (wrote-grow s ok (space-left s ok space) p long .fields) 0
 
   -- the next number may become a child of the focus
   pub can-grow : (w : What) → w ≢ blank → Growable (view s .tree) (nextOf s) (focus s) w (nextOf s)
@@ -196,19 +196,19 @@ module _ (s : List ℕ) (ok : Sound s) (space : IsFull s → ⊥) where
       let kind : kindN p ≡ 5 = node-kind 5 (focus s) a b blankCell in
       let up : parentN p ≡ focus s = node-parent 5 (focus s) a b blankCell in
       let stored : storedN p ≡ blankCell = node-stored 5 (focus s) a b blankCell refl in
-      let what : whatN p ≡ wind a b = what-wind p (omega arith) (omega arith) ∙ (λ i. wind (node-var 5 (focus s) a b blankCell i) (node-post 5 (focus s) a b blankCell i)) in
+      let is : IsWind (kindN p) = omega arith in
+      let what : whatN p ≡ wind a b = what-wind p is ∙ (λ i. wind (node-var 5 (focus s) a b blankCell i) (node-post 5 (focus s) a b blankCell i)) in
       let good : NodeOk (vars s) (made s) p = record {
-        low = omega arith;
-        high = omega arith;
+        node = inr is;
         parent = omega (arith, ok .fields .shape .head .focus-made);
-        var = λ z. absurd (omega arith);
-        zero = λ z. absurd (omega arith);
-        stored = λ z. absurd (omega arith);
+        var = λ z. absurd (not-both z is);
+        zero = λ z. absurd (not-both z is);
+        stored = λ z. absurd (not-both z is);
         still = λ z. stored;
       } in
       becomes (make (made s) (wind a b) unbound (made s) (view s)) ok (wrote-grow s ok room-left p long) refl refl
       (grown-shape s ok room-left p long good (cells s) (ok .fields .shape .cells))
-      (grown-seen s ok room-left p long (cells s) (wind a b) what (up-node p (omega arith) (omega arith) ∙ ap some up) (inside kind) ∙ (rw (stored, as-blank, upd-same (view s .tree .what) (made s) (wind a b))))
+      (grown-seen s ok room-left p long (cells s) (wind a b) what (up-node p (inr is) ∙ ap some up) (inside kind) ∙ (rw (stored, as-blank, upd-same (view s .tree .what) (made s) (wind a b))))
       (make-sound unbound (view s) (sound-view s ok) (can-grow (wind a b) (is-wind a b refl)))
     where
       inside : {k : ℕ} → k ≡ 5 → isIn k ≡ true
@@ -228,20 +228,20 @@ module _ (s : List ℕ) (ok : Sound s) (space : IsFull s → ⊥) where
       let up : parentN p ≡ f = node-parent 3 f x 0 c in
       let var : varN p ≡ x = node-var 3 f x 0 c in
       let stored : storedN p ≡ c = node-stored 3 f x 0 c (bare-length (cells s x)) in
-      let what : whatN p ≡ binding x = what-binding p (omega arith) (omega arith) ∙ ap binding var in
+      let is : IsBinding (kindN p) = omega arith in
+      let what : whatN p ≡ binding x = what-binding p is ∙ ap binding var in
       let good : NodeOk (vars s) (made s) p = record {
-        low = omega arith;
-        high = omega arith;
+        node = inl is;
         parent = omega (arith, ok .fields .shape .head .focus-made);
         var = λ z. omega arith;
         zero = λ z. node-post 3 f x 0 c;
         stored = λ z. rw stored (ok .fields .shape .cells x known);
-        still = λ z. absurd (omega arith);
+        still = λ z. absurd (not-both is z);
       } in
       let t : List ℕ = growB s p in
       let w : Wrote s t (withCells s ok room-left p long (cells s)) = wrote-grow s ok room-left p long in
       let fit′ : Fit t = wrote-fit w refl refl fit in
-      let numbers = fields-numbers t (w .fields) in
+      let numbers = fields-number t (w .fields) 0 in
       let known′ : x < vars t = omega arith in
       let q : List ℕ = taken s fit x known v in
       let all : Wrote s (setB t x v) (withCells s ok room-left p long (upd (cells s) x q)) =
@@ -250,7 +250,7 @@ module _ (s : List ℕ) (ok : Sound s) (space : IsFull s → ⊥) where
       subst (λ (u : List ℕ). Becomes s u (make (made s) (binding x) (value v) (made s) (view s))) bytes
       (becomes (make (made s) (binding x) (value v) (made s) (view s)) ok all refl refl
       (grown-shape s ok room-left p long good (upd (cells s) x q) (put-proper (cells s) (vars s) x q (ok .fields .shape .cells) (rw (taken-bare s fit x known v) (proper-value v))))
-      (grown-seen s ok room-left p long (upd (cells s) x q) (binding x) what (up-node p (omega arith) (omega arith) ∙ ap some up) (inside kind)
+      (grown-seen s ok room-left p long (upd (cells s) x q) (binding x) what (up-node p (inl is) ∙ ap some up) (inside kind)
       ∙ rw (stored, cells-seen s ok x known v fits) (ap with-values (sym (make-binding (made s) x (value v) (made s) (view s)))))
       (make-sound (value v) (view s) (sound-view s ok) (can-grow (binding x) (is-binding x refl))))
     where

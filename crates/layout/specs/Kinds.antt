@@ -1,7 +1,7 @@
 -- Document 01's kinds: 0 blank, 1 top, 2 binding out, 3 binding in, 4 wind out, 5 wind in. What is in or out, a binding
--- or a wind is read from the kind here; soundness names the kinds' ranges itself, and laws part the kinds by them. Assumes nothing.
+-- or a wind is read from the kind here, and nowhere else in definitions and laws. Assumes nothing.
 use mathlib.Core.Path.{_≡_, refl, sym, ap, _∙_}
-use mathlib.Core.Logic.{_≢_}
+use mathlib.Core.Logic.{_⊎_, inl, inr}
 use mathlib.Core.Bool.{Bool, true, false, cond, _||_}
 use Prim.Native.Nat.{ℕ, zero, suc, _+_, _-_, _≤_, _<_}
 use native.Mathlib.Omega.{arith}
@@ -11,6 +11,16 @@ use borrow.Author.Tests.{le-leb, lt-leb, eq-eqb, ne-eqb}
 -- a between lo and hi
 abbrev pub within : ℕ → ℕ → ℕ → Bool
 within lo a hi = cond (leb lo a) (leb a hi) false
+
+-- a binding's kind, a wind's, one of the two
+abbrev pub IsBinding : ℕ → Type 0
+IsBinding k = (2 ≤ k) × (k ≤ 3)
+
+abbrev pub IsWind : ℕ → Type 0
+IsWind k = (4 ≤ k) × (k ≤ 5)
+
+abbrev pub IsNode : ℕ → Type 0
+IsNode k = IsBinding k ⊎ IsWind k
 
 -- by the kind k: b for a binding, w for a wind, t for the top, o for anything else
 unfoldable pub byKind : {A : Type 0} → ℕ → A → A → A → A → A
@@ -32,29 +42,49 @@ abbrev pub enteredKind : ℕ → ℕ
 enteredKind k = k + 1
 
 module _ {A : Type 0} (k : ℕ) (b w t o : A) where
-  pub kind-binding : 2 ≤ k → k ≤ 3 → byKind k b w t o ≡ b
+  pub kind-binding : IsBinding k → byKind k b w t o ≡ b
   unfolding byKind
-  kind-binding l h = simp (le-leb _ _ l, le-leb _ _ h)
+  kind-binding (l, h) = simp (le-leb _ _ l, le-leb _ _ h)
 
-  pub kind-wind : 4 ≤ k → k ≤ 5 → byKind k b w t o ≡ w
+  pub kind-wind : IsWind k → byKind k b w t o ≡ w
   unfolding byKind
-  kind-wind l h =
+  kind-wind (l, h) =
       let l2 : 2 ≤ k = omega arith in
       let h2 : 3 < k = omega arith in
       simp (le-leb _ _ l, le-leb _ _ l2, lt-leb _ _ h2, le-leb _ _ h)
 
--- a kind from 2 to 5 is one of four
+pub kind-node : {A : Type 0} (k : ℕ) (b t o : A) → IsNode k → byKind k b b t o ≡ b
+kind-node k b t o (inl is) = kind-binding k b b t o is
+kind-node k b t o (inr is) = kind-wind k b b t o is
+
+-- the kinds of nodes lie between these
+pub node-low : (k : ℕ) → IsNode k → 2 ≤ k
+node-low k (inl is) = is .0
+node-low k (inr is) = omega arith
+
+pub node-high : (k : ℕ) → IsNode k → k ≤ 5
+node-high k (inl is) = omega arith
+node-high k (inr is) = is .1
+
+-- no kind is both
+pub not-both : {k : ℕ} → IsBinding k → IsWind k → ⊥
+not-both b w = omega arith
+
+-- a node's kind is one of four
 pub data Node : ℕ → Type 0 where
   binding-out : Node 2
   binding-in : Node 3
   wind-out : Node 4
   wind-in : Node 5
 
-pub node-kind : (k : ℕ) → 2 ≤ k → k ≤ 5 → Node k
-node-kind zero l h = absurd (omega arith)
-node-kind (suc zero) l h = absurd (omega arith)
-node-kind (suc (suc zero)) l h = binding-out
-node-kind (suc (suc (suc zero))) l h = binding-in
-node-kind (suc (suc (suc (suc zero)))) l h = wind-out
-node-kind (suc (suc (suc (suc (suc zero))))) l h = wind-in
-node-kind (suc (suc (suc (suc (suc (suc k)))))) l h = absurd (omega arith)
+pub node-kind : (k : ℕ) → IsNode k → Node k
+node-kind k is = go k (node-low k is) (node-high k is)
+  where
+    go : (k : ℕ) → 2 ≤ k → k ≤ 5 → Node k
+    go zero l h = absurd (omega arith)
+    go (suc zero) l h = absurd (omega arith)
+    go (suc (suc zero)) l h = binding-out
+    go (suc (suc (suc zero))) l h = binding-in
+    go (suc (suc (suc (suc zero)))) l h = wind-out
+    go (suc (suc (suc (suc (suc zero))))) l h = wind-in
+    go (suc (suc (suc (suc (suc (suc k)))))) l h = absurd (omega arith)

@@ -8,14 +8,14 @@ use Prim.Native.Nat.{ℕ, zero, suc, _+_, _-_, _*_, _≤_, _<_}
 use native.Mathlib.Omega.{arith}
 use native.Mathlib.Decide.{decLt, ℕ-discrete}
 use mathlib.Core.List.{List, [], _∷_}
-use lib.Dec.{ltb}
+use lib.Dec.{eqb, ltb}
 use lib.ListN.{length, getD, set, drop, length-set}
-use borrow.Author.Tests.{lt-ltb, le-ltb}
-use Rattle.rules.specs.Basic.{upd, upd-same, upd-other}
+use borrow.Author.Tests.{lt-ltb, le-ltb, ne-eqb}
+use Rattle.rules.specs.Basic.{upd, upd-same, upd-other, eqb-self}
 use Rattle.layout.specs.Limits.{header, cellSize, bareSize, nodeSize, cellAt, nodeAt, sizeOf}
 use Rattle.layout.specs.Bytes.{part, splice, u16, put16, part-length, splice-length, splice-same, splice-before, splice-after, splice-apart, splice-drop, put16-length, u16-same, u16-other, tab, by-tab}
-use Rattle.layout.specs.Records.{headOf, withHead, vars, room, made, focus, withFocus, withMade, blankCell, cellOf, withCell, bareC, putC, nodeOf, withNode, kindN, parentN, varN, postN, storedN, turnN, swapN, blankNode}
-use Rattle.layout.specs.Fields.{Fields, cells, nodes, fieldsOf, Fit, past}
+use Rattle.layout.specs.Records.{headOf, headN, withHead, vars, room, blankCell, cellOf, withCell, bareC, putC, nodeOf, withNode, kindN, parentN, varN, postN, storedN, turnN, swapN, blankNode}
+use Rattle.layout.specs.Fields.{Fields, varsF, roomF, cells, nodes, fieldsOf, Fit, past}
 
 -- ---- the records of a buffer
 pub node-in : (s : List ℕ) (n : ℕ) → n < room s → nodes s n ≡ nodeOf s n
@@ -38,8 +38,8 @@ cell-past s x h = simp (le-ltb _ _ h)
 pub record OfBuffer (f : Fields) : Type 0 where
   pub node-long : (n : ℕ) → length (f .node n) ≡ nodeSize
   pub cell-long : (x : ℕ) → length (f .cell x) ≡ cellSize
-  pub node-end : (n : ℕ) → f .room ≤ n → f .node n ≡ blankNode
-  pub cell-end : (x : ℕ) → f .vars ≤ x → f .cell x ≡ blankCell
+  pub node-end : (n : ℕ) → roomF f ≤ n → f .node n ≡ blankNode
+  pub cell-end : (x : ℕ) → varsF f ≤ x → f .cell x ≡ blankCell
 
 node-part : (s : List ℕ) (n : ℕ) → Fit s → n < room s → length (nodeOf s n) ≡ nodeSize
 unfolding nodeOf
@@ -62,15 +62,9 @@ of-buffer s fit = record { node-long = λ n. node-long n (decLt n (room s)); cel
     cell-long x (no h) = ap length (cell-past s x (omega arith))
 
 -- ---- the header's numbers are those of its bytes
-pub record SameHead (t s : List ℕ) : Type 0 where
-  pub v : vars t ≡ vars s
-  pub n : room t ≡ room s
-  pub m : made t ≡ made s
-  pub f : focus t ≡ focus s
-
-same-head : {t s : List ℕ} → headOf t ≡ headOf s → SameHead t s
-unfolding vars room made focus
-same-head e = record { v = ap (λ h. u16 h 0) e; n = ap (λ h. u16 h 2) e; m = ap (λ h. u16 h 4) e; f = ap (λ h. u16 h 6) e }
+same-head : (s t : List ℕ) → headOf t ≡ headOf s → (k : ℕ) → headN t k ≡ headN s k
+unfolding headN
+same-head s t e k = ap (λ h. u16 h (2 * k)) e
 
 -- ---- the cells and the nodes as functions, from the records
 same-cells : (s t : List ℕ) → vars t ≡ vars s → ((x : ℕ) → x < vars s → cellOf t x ≡ cellOf s x) → cells t ≡ cells s
@@ -111,21 +105,18 @@ pub record Wrote (s t : List ℕ) (f : Fields) : Type 0 where
 
 -- fields with one of them changed
 abbrev pub nodeF : ℕ → List ℕ → Fields → Fields
-nodeF n p f = record { vars = f .vars; room = f .room; made = f .made; focus = f .focus; cell = f .cell; node = upd (f .node) n p }
+nodeF n p f = record { head = f .head; cell = f .cell; node = upd (f .node) n p }
 
 abbrev pub cellF : ℕ → List ℕ → Fields → Fields
-cellF x c f = record { vars = f .vars; room = f .room; made = f .made; focus = f .focus; cell = upd (f .cell) x c; node = f .node }
+cellF x c f = record { head = f .head; cell = upd (f .cell) x c; node = f .node }
 
-abbrev pub focusF : ℕ → Fields → Fields
-focusF g f = record { vars = f .vars; room = f .room; made = f .made; focus = g; cell = f .cell; node = f .node }
-
-abbrev pub madeF : ℕ → Fields → Fields
-madeF m f = record { vars = f .vars; room = f .room; made = m; focus = f .focus; cell = f .cell; node = f .node }
+abbrev pub headF : ℕ → ℕ → Fields → Fields
+headF k v f = record { head = λ j. cond (eqb j k) v (f .head j); cell = f .cell; node = f .node }
 
 -- the numbers of the header as fields
-pub fields-numbers : (t : List ℕ) {f : Fields} → fieldsOf t ≡ f → (vars t ≡ f .vars) × (room t ≡ f .room) × (made t ≡ f .made) × (focus t ≡ f .focus)
+pub fields-number : (t : List ℕ) {f : Fields} → fieldsOf t ≡ f → (k : ℕ) → headN t k ≡ f .head k
 unfolding fieldsOf
-fields-numbers t e = (ap (λ (g : Fields). g .vars) e, ap (λ (g : Fields). g .room) e, ap (λ (g : Fields). g .made) e, ap (λ (g : Fields). g .focus) e)
+fields-number t e k = ap (λ (g : Fields). g .head k) e
 
 same-past : (s t : List ℕ) → vars t ≡ vars s → room t ≡ room s → drop (sizeOf (vars s) (room s)) t ≡ drop (sizeOf (vars s) (room s)) s → past t ≡ past s
 unfolding past
@@ -137,6 +128,9 @@ module _ (s : List ℕ) (n : ℕ) (p : List ℕ) (fit : Fit s) (below : n < room
   unfolding withNode headOf
   head-node = splice-before s p (nodeAt (vars s) n) nodeSize long (omega arith) 0 header (omega arith)
 
+  head-by-node : (k : ℕ) → headN (withNode s n p) k ≡ headN s k
+  head-by-node = same-head s (withNode s n p) head-node
+
   cell-node : (x : ℕ) → x < vars s → cellOf (withNode s n p) x ≡ cellOf s x
   unfolding withNode cellOf
   cell-node x h = splice-before s p (nodeAt (vars s) n) nodeSize long (omega arith) (cellAt x) cellSize (omega arith)
@@ -144,13 +138,13 @@ module _ (s : List ℕ) (n : ℕ) (p : List ℕ) (fit : Fit s) (below : n < room
   node-same : nodeOf (withNode s n p) n ≡ p
   unfolding nodeOf withNode
   node-same =
-      ap (λ (v : ℕ). part (withNode s n p) (nodeAt v n) nodeSize) (same-head head-node .v)
+      ap (λ (v : ℕ). part (withNode s n p) (nodeAt v n) nodeSize) (head-by-node 0)
       ∙ splice-same s p (nodeAt (vars s) n) nodeSize long (omega arith)
 
   node-other : (m : ℕ) → m ≢ n → nodeOf (withNode s n p) m ≡ nodeOf s m
   unfolding nodeOf withNode
   node-other m h =
-      ap (λ (v : ℕ). part (withNode s n p) (nodeAt v m) nodeSize) (same-head head-node .v)
+      ap (λ (v : ℕ). part (withNode s n p) (nodeAt v m) nodeSize) (head-by-node 0)
       ∙ splice-apart s p (nodeAt (vars s) n) nodeSize (nodeAt (vars s) m) nodeSize long (omega arith) (λ a b. omega arith)
 
   node-length : length (withNode s n p) ≡ length s
@@ -160,24 +154,18 @@ module _ (s : List ℕ) (n : ℕ) (p : List ℕ) (fit : Fit s) (below : n < room
   node-rest : past (withNode s n p) ≡ past s
   unfolding withNode
   node-rest =
-      same-past s (withNode s n p) (same-head head-node .v) (same-head head-node .n)
+      same-past s (withNode s n p) (head-by-node 0) (head-by-node 1)
       (splice-drop s p (nodeAt (vars s) n) nodeSize long (omega arith) (sizeOf (vars s) (room s)) (omega arith))
 
   pub wrote-node : Wrote s (withNode s n p) (nodeF n p (fieldsOf s))
   unfolding fieldsOf
   wrote-node = record { fields = same; long = node-length; rest = node-rest }
     where
-      h : SameHead (withNode s n p) s
-      h = same-head head-node
-
       same : fieldsOf (withNode s n p) ≡ nodeF n p (fieldsOf s)
       same = λ i. record {
-        vars = h .v i;
-        room = h .n i;
-        made = h .m i;
-        focus = h .f i;
-        cell = same-cells s (withNode s n p) (h .v) cell-node i;
-        node = put-nodes s (withNode s n p) n p (h .n) below node-same node-other i;
+        head = fun-ext head-by-node i;
+        cell = same-cells s (withNode s n p) (head-by-node 0) cell-node i;
+        node = put-nodes s (withNode s n p) n p (head-by-node 1) below node-same node-other i;
       }
 
 -- ---- a cell is replaced
@@ -186,10 +174,13 @@ module _ (s : List ℕ) (x : ℕ) (c : List ℕ) (fit : Fit s) (known : x < vars
   unfolding withCell headOf
   head-cell = splice-before s c (cellAt x) cellSize long (omega arith) 0 header (omega arith)
 
+  head-by-cell : (k : ℕ) → headN (withCell s x c) k ≡ headN s k
+  head-by-cell = same-head s (withCell s x c) head-cell
+
   node-cell : (n : ℕ) → n < room s → nodeOf (withCell s x c) n ≡ nodeOf s n
   unfolding nodeOf withCell
   node-cell n l =
-      ap (λ (v : ℕ). part (withCell s x c) (nodeAt v n) nodeSize) (same-head head-cell .v)
+      ap (λ (v : ℕ). part (withCell s x c) (nodeAt v n) nodeSize) (head-by-cell 0)
       ∙ splice-after s c (cellAt x) cellSize long (omega arith) (nodeAt (vars s) n) nodeSize (omega arith)
 
   cell-same : cellOf (withCell s x c) x ≡ c
@@ -207,102 +198,86 @@ module _ (s : List ℕ) (x : ℕ) (c : List ℕ) (fit : Fit s) (known : x < vars
   cell-rest : past (withCell s x c) ≡ past s
   unfolding withCell
   cell-rest =
-      same-past s (withCell s x c) (same-head head-cell .v) (same-head head-cell .n)
+      same-past s (withCell s x c) (head-by-cell 0) (head-by-cell 1)
       (splice-drop s c (cellAt x) cellSize long (omega arith) (sizeOf (vars s) (room s)) (omega arith))
 
   pub wrote-cell : Wrote s (withCell s x c) (cellF x c (fieldsOf s))
   unfolding fieldsOf
   wrote-cell = record { fields = same; long = cell-length; rest = cell-rest }
     where
-      h : SameHead (withCell s x c) s
-      h = same-head head-cell
-
       same : fieldsOf (withCell s x c) ≡ cellF x c (fieldsOf s)
       same = λ i. record {
-        vars = h .v i;
-        room = h .n i;
-        made = h .m i;
-        focus = h .f i;
-        cell = put-cells s (withCell s x c) x c (h .v) known cell-same cell-other i;
-        node = same-nodes s (withCell s x c) (h .n) node-cell i;
+        head = fun-ext head-by-cell i;
+        cell = put-cells s (withCell s x c) x c (head-by-cell 0) known cell-same cell-other i;
+        node = same-nodes s (withCell s x c) (head-by-cell 1) node-cell i;
       }
 
--- ---- the header's number at o is replaced by v: the others, the cells and the nodes stay
-module _ (s : List ℕ) (o v : ℕ) (fit : Fit s) (inside : o + 2 ≤ header) (clear : 4 ≤ o) where
+-- ---- the header's number k, behind V and N, is replaced by v: the others, the cells and the nodes stay
+module _ (s : List ℕ) (k v : ℕ) (fit : Fit s) (clear : 2 ≤ k) (inside : 2 * k + 2 ≤ header) where
   abbrev headed : List ℕ
-  headed = withHead s (put16 (headOf s) o v)
+  headed = withHead s k v
 
-  head-length : length (put16 (headOf s) o v) ≡ header
+  abbrev bytes : List ℕ
+  bytes = put16 (headOf s) (2 * k) v
+
+  head-length : length bytes ≡ header
   unfolding headOf
-  head-length = put16-length (part s 0 header) o v ∙ part-length s 0 header (omega arith)
+  head-length = put16-length (part s 0 header) (2 * k) v ∙ part-length s 0 header (omega arith)
 
-  head-is : headOf headed ≡ put16 (headOf s) o v
+  head-is : headOf headed ≡ bytes
   unfolding withHead headOf
-  head-is = splice-same s (put16 (headOf s) o v) 0 header head-length (omega arith)
+  head-is = splice-same s bytes 0 header head-length (omega arith)
 
-  head-same : u16 (headOf headed) o ≡ v
-  unfolding headOf
-  head-same = ap (λ h. u16 h o) head-is ∙ u16-same (headOf s) o v (omega (arith, part-length s 0 header (omega arith)))
+  head-number : (j : ℕ) → headN headed j ≡ cond (eqb j k) v (headN s j)
+  unfolding headN headOf
+  head-number j = ap (λ h. u16 h (2 * j)) head-is ∙ go (ℕ-discrete j k)
+    where
+      go : Dec (j ≡ k) → u16 bytes (2 * j) ≡ cond (eqb j k) v (u16 (headOf s) (2 * j))
+      go (yes e) = rw (e, eqb-self k) (u16-same (headOf s) (2 * k) v (omega (arith, part-length s 0 header (omega arith))))
+      go (no e) = rw (ne-eqb j k e) (u16-other (headOf s) (2 * k) v (2 * j) (λ a b. e (omega arith)))
 
-  head-other : (q : ℕ) → (o < q + 2 → q < o + 2 → ⊥) → u16 (headOf headed) q ≡ u16 (headOf s) q
-  head-other q h = ap (λ k. u16 k q) head-is ∙ u16-other (headOf s) o v q h
+  head-before : (j : ℕ) → j < 2 → headN headed j ≡ headN s j
+  head-before j l = head-number j ∙ rw (ne-eqb j k (λ e. omega arith))
 
-  head-vars : vars headed ≡ vars s
-  unfolding vars
-  head-vars = head-other 0 (λ a b. omega arith)
+  abbrev head-vars : vars headed ≡ vars s
+  head-vars = head-before 0 (omega arith)
 
-  head-room : room headed ≡ room s
-  unfolding room
-  head-room = head-other 2 (λ a b. omega arith)
+  abbrev head-room : room headed ≡ room s
+  head-room = head-before 1 (omega arith)
 
   head-cells : (x : ℕ) → cellOf headed x ≡ cellOf s x
   unfolding cellOf withHead
-  head-cells x = splice-after s (put16 (headOf s) o v) 0 header head-length (omega arith) (cellAt x) cellSize (omega arith)
+  head-cells x = splice-after s bytes 0 header head-length (omega arith) (cellAt x) cellSize (omega arith)
 
   head-nodes : (n : ℕ) → nodeOf headed n ≡ nodeOf s n
   unfolding nodeOf withHead
   head-nodes n =
       ap (λ (w : ℕ). part headed (nodeAt w n) nodeSize) head-vars
-      ∙ splice-after s (put16 (headOf s) o v) 0 header head-length (omega arith) (nodeAt (vars s) n) nodeSize (omega arith)
+      ∙ splice-after s bytes 0 header head-length (omega arith) (nodeAt (vars s) n) nodeSize (omega arith)
 
   head-rest : past headed ≡ past s
   unfolding withHead
   head-rest =
       same-past s headed head-vars head-room
-      (splice-drop s (put16 (headOf s) o v) 0 header head-length (omega arith) (sizeOf (vars s) (room s)) (omega arith))
+      (splice-drop s bytes 0 header head-length (omega arith) (sizeOf (vars s) (room s)) (omega arith))
 
-  wrote-head : Wrote s headed (record { vars = vars s; room = room s; made = u16 (headOf headed) 4; focus = u16 (headOf headed) 6; cell = cells s; node = nodes s })
-  unfolding fieldsOf made focus withHead
+  pub wrote-head : Wrote s headed (headF k v (fieldsOf s))
+  unfolding fieldsOf withHead
   wrote-head = record {
     fields = λ i. record {
-      vars = head-vars i;
-      room = head-room i;
-      made = u16 (headOf headed) 4;
-      focus = u16 (headOf headed) 6;
+      head = fun-ext head-number i;
       cell = same-cells s headed head-vars (λ x h. head-cells x) i;
       node = same-nodes s headed head-room (λ n h. head-nodes n) i;
     };
-    long = splice-length s (put16 (headOf s) o v) 0 header head-length (omega arith);
+    long = splice-length s bytes 0 header head-length (omega arith);
     rest = head-rest;
   }
 
-pub wrote-focus : (s : List ℕ) (v : ℕ) → Fit s → Wrote s (withFocus s v) (focusF v (fieldsOf s))
-unfolding withFocus fieldsOf made
-wrote-focus s v fit =
-    let m = head-other s 6 v fit (omega arith) (omega arith) 4 (λ a b. omega arith) in
-    let f = head-same s 6 v fit (omega arith) (omega arith) in
-    rw (m, f) at (wrote-head s 6 v fit (omega arith) (omega arith))
-
-pub wrote-made : (s : List ℕ) (v : ℕ) → Fit s → Wrote s (withMade s v) (madeF v (fieldsOf s))
-unfolding withMade fieldsOf focus
-wrote-made s v fit =
-    let m = head-same s 4 v fit (omega arith) (omega arith) in
-    let f = head-other s 4 v fit (omega arith) (omega arith) 6 (λ a b. omega arith) in
-    rw (m, f) at (wrote-head s 4 v fit (omega arith) (omega arith))
-
 -- ---- writes in a row
-pub wrote-fit : {s t : List ℕ} {f : Fields} → Wrote s t f → f .vars ≡ vars s → f .room ≡ room s → Fit s → Fit t
-wrote-fit {s} {t} w v r fit = let n = fields-numbers t (w .fields) in record { v = omega arith; n = omega arith; long = omega (arith, w .long) }
+pub wrote-fit : {s t : List ℕ} {f : Fields} → Wrote s t f → varsF f ≡ vars s → roomF f ≡ room s → Fit s → Fit t
+wrote-fit {s} {t} w v r fit =
+    let vars = fields-number t (w .fields) 0 in
+    let room = fields-number t (w .fields) 1 in record { v = omega arith; n = omega arith; long = omega (arith, w .long) }
 
 pub then : {s t u : List ℕ} {f g : Fields} → Wrote s t f → Wrote t u g → Wrote s u g
 then a b = record { fields = b .fields; long = b .long ∙ a .long; rest = b .rest ∙ a .rest }

@@ -16,15 +16,15 @@ use Rattle.rules.specs.Store as store
 use Rattle.rules.specs.Store.{leave-sound, enter-sound}
 use Rattle.layout.specs.Limits.{cellSize, bareSize, nodeSize}
 use Rattle.layout.specs.Records.{vars, room, made, focus, withFocus, blankCell, ProperCell, cellOf, bareC, putC, nodeOf, withNode, withCell, kindN, parentN, varN, postN, storedN, turnN, swapN}
-use Rattle.layout.specs.Kinds.{byKind, isIn, leftKind, enteredKind, kind-binding, kind-wind, Node, binding-out, binding-in, wind-out, wind-in, node-kind}
-use Rattle.layout.specs.Fields.{Fields, cells, nodes, fieldsOf, Fit, past}
+use Rattle.layout.specs.Kinds.{byKind, isIn, leftKind, enteredKind, kind-binding, kind-wind, Node, binding-out, binding-in, wind-out, wind-in, node-kind, IsBinding, IsWind, not-both}
+use Rattle.layout.specs.Fields.{Fields, cells, nodes, fieldsOf, Fit, past, varsF, roomF, madeF, focusF}
 use Rattle.layout.specs.View.{asCell, whatN, upN, treeF, viewF, view}
 use Rattle.layout.specs.Sound.{NodeOk, HeadOk, Shape, SoundF, Sound}
 use Rattle.layout.specs.Writes.{swapB, turnB, moveB, leaveB, enterB, Turns}
 use Rattle.layout.specs.Becomes.{Kept, Becomes}
-use Rattle.layout.specs.Laws.{OfBuffer, of-buffer, node-in, cell-in, Wrote, nodeF, cellF, focusF, fields-numbers, wrote-node, wrote-cell, wrote-focus, wrote-fit, then}
+use Rattle.layout.specs.Laws.{OfBuffer, of-buffer, node-in, cell-in, Wrote, nodeF, cellF, headF, fields-number, wrote-node, wrote-cell, wrote-head, wrote-fit, then}
 use Rattle.layout.specs.RecordLaws.{put-length, turn-length, swap-length, bare-length, stored-length, bare-put, SameNode, turn-kind, turn-same, turn-stored, swap-kind, swap-same, swap-stored}
-use Rattle.layout.specs.SoundLaws.{what-binding, what-wind, up-node, inner-up, up-inner, shape-proper, seen-sound, sound-fit, sound-view}
+use Rattle.layout.specs.SoundLaws.{what-binding, what-wind, up-node, inner-up, up-inner, shape-proper, seen-sound, sound-fit, sound-view, shape-inners, shape-blanks, shape-by-numbers}
 
 -- ---- functions through a change at one place
 module _ {B : Type 0} (h : List ℕ → B) (g : ℕ → List ℕ) (n : ℕ) (p : List ℕ) where
@@ -40,15 +40,15 @@ module _ {B : Type 0} (h : List ℕ → B) (g : ℕ → List ℕ) (n : ℕ) (p :
 
 -- ---- two kinds of one node: both a binding's, or both a wind's
 abbrev pub Alike : ℕ → ℕ → Type 0
-Alike k l = ((2 ≤ k) × (k ≤ 3) × (2 ≤ l) × (l ≤ 3)) ⊎ ((4 ≤ k) × (k ≤ 5) × (4 ≤ l) × (l ≤ 5))
+Alike k l = (IsBinding k × IsBinding l) ⊎ (IsWind k × IsWind l)
 
 same-what : (p q : List ℕ) → SameNode p q → Alike (kindN p) (kindN q) → whatN p ≡ whatN q
-same-what p q s (inl (a, b, c, d)) = what-binding p a b ∙ ap binding (s .var) ∙ sym (what-binding q c d)
-same-what p q s (inr (a, b, c, d)) = what-wind p a b ∙ (λ i. wind (s .var i) (s .post i)) ∙ sym (what-wind q c d)
+same-what p q s (inl (a, b)) = what-binding p a ∙ ap binding (s .var) ∙ sym (what-binding q b)
+same-what p q s (inr (a, b)) = what-wind p a ∙ (λ i. wind (s .var i) (s .post i)) ∙ sym (what-wind q b)
 
 same-up : (p q : List ℕ) → SameNode p q → Alike (kindN p) (kindN q) → upN p ≡ upN q
-same-up p q s (inl (a, b, c, d)) = up-node p a (omega arith) ∙ ap some (s .parent) ∙ sym (up-node q c (omega arith))
-same-up p q s (inr (a, b, c, d)) = up-node p (omega arith) b ∙ ap some (s .parent) ∙ sym (up-node q (omega arith) d)
+same-up p q s (inl (a, b)) = up-node p (inl a) ∙ ap some (s .parent) ∙ sym (up-node q (inl b))
+same-up p q s (inr (a, b)) = up-node p (inr a) ∙ ap some (s .parent) ∙ sym (up-node q (inr b))
 
 -- ---- a turn of the node n, on fields
 abbrev swapF : Fields → ℕ → ℕ → Fields
@@ -73,17 +73,17 @@ module _ (f : Fields) (buffer : OfBuffer f) (n k g : ℕ) where
   abbrev was : List ℕ
   was = f .node n
 
-  swapped-seen : 2 ≤ kindN was → kindN was ≤ 3 → 2 ≤ k → k ≤ 3 → viewF (focusF g (swapF f n k)) ≡ turned f n k g
+  swapped-seen : IsBinding (kindN was) → IsBinding k → viewF (headF 3 g (swapF f n k)) ≡ turned f n k g
   unfolding viewF treeF
-  swapped-seen a b c d =
+  swapped-seen a b =
       let long : length was ≡ nodeSize = buffer .node-long n in
       let p : List ℕ = swapN was k (bareC (f .cell x)) in
       let kind : kindN p ≡ k = swap-kind k (bareC (f .cell x)) was long in
-      let alike : Alike (kindN p) (kindN was) = inl (omega arith, omega arith, a, b) in
+      let alike : Alike (kindN p) (kindN was) = inl (rw kind b, a) in
       let same : SameNode p was = swap-same k (bareC (f .cell x)) was long in
       let stored : storedN p ≡ bareC (f .cell x) = swap-stored k was (bareC (f .cell x)) long (bare-length (f .cell x)) in
       let bare : bareC (putC (f .cell x) (storedN was)) ≡ storedN was = bare-put (f .cell x) (storedN was) (buffer .cell-long x) (stored-length was) in
-      rw (what-binding was a b) λ i. record {
+      rw (what-binding was a) λ i. record {
         tree = record { what = unseen whatN (f .node) n p (same-what p was same alike) i; up = unseen upN (f .node) n p (same-up p was same alike) i; rank = λ m. m };
         focus = g;
         values = record {
@@ -93,15 +93,15 @@ module _ (f : Fields) (buffer : OfBuffer f) (n k g : ℕ) where
         mode = (through (λ (q : List ℕ). isIn (kindN q)) (f .node) n p ∙ ap (λ (l : ℕ). upd (λ (m : ℕ). isIn (kindN (f .node m))) n (isIn l)) kind) i;
       }
 
-  wound-seen : 4 ≤ kindN was → kindN was ≤ 5 → 4 ≤ k → k ≤ 5 → viewF (focusF g (windF f n k)) ≡ turned f n k g
+  wound-seen : IsWind (kindN was) → IsWind k → viewF (headF 3 g (windF f n k)) ≡ turned f n k g
   unfolding viewF treeF
-  wound-seen a b c d =
+  wound-seen a b =
       let long : length was ≡ nodeSize = buffer .node-long n in
       let p : List ℕ = turnN was k in
       let kind : kindN p ≡ k = turn-kind k was long in
-      let alike : Alike (kindN p) (kindN was) = inr (omega arith, omega arith, a, b) in
+      let alike : Alike (kindN p) (kindN was) = inr (rw kind b, a) in
       let same : SameNode p was = turn-same k was long in
-      rw (what-wind was a b) λ i. record {
+      rw (what-wind was a) λ i. record {
         tree = record { what = unseen whatN (f .node) n p (same-what p was same alike) i; up = unseen upN (f .node) n p (same-up p was same alike) i; rank = λ m. m };
         focus = g;
         values = record {
@@ -112,8 +112,8 @@ module _ (f : Fields) (buffer : OfBuffer f) (n k g : ℕ) where
       }
 
   -- ---- the shape is kept
-  module _ (ok : Shape f) (inner : 1 ≤ n) (below : n < f .made) (goal : g < f .made) where
-    head-kept : HeadOk (f .vars) (f .room) (f .made) (f .focus) → HeadOk (f .vars) (f .room) (f .made) g
+  module _ (ok : Shape f) (inner : 1 ≤ n) (below : n < madeF f) (goal : g < madeF f) where
+    head-kept : HeadOk (varsF f) (roomF f) (madeF f) (focusF f) → HeadOk (varsF f) (roomF f) (madeF f) g
     head-kept h = record {
       vars-low = h .vars-low;
       vars-high = h .vars-high;
@@ -125,67 +125,60 @@ module _ (f : Fields) (buffer : OfBuffer f) (n k g : ℕ) where
     }
 
     -- a node p in place of n, as good as it was
-    nodes-kept : (p : List ℕ) → NodeOk (f .vars) n p → (m : ℕ) → 1 ≤ m → m < f .made → NodeOk (f .vars) m (upd (f .node) n p m)
+    nodes-kept : (p : List ℕ) → NodeOk (varsF f) n p → (m : ℕ) → 1 ≤ m → m < madeF f → NodeOk (varsF f) m (upd (f .node) n p m)
     nodes-kept p h m a b = go (ℕ-discrete m n)
       where
-        go : Dec (m ≡ n) → NodeOk (f .vars) m (upd (f .node) n p m)
+        go : Dec (m ≡ n) → NodeOk (varsF f) m (upd (f .node) n p m)
         go (yes e) = rw (e, upd-same) h
-        go (no e) = rw (upd-other (f .node) n m p e) (ok .nodes m a b)
+        go (no e) = rw (upd-other (f .node) n m p e) (shape-inners f ok m a b)
 
-    cells-kept : (y : ℕ) (c : List ℕ) → ProperCell (bareC c) → (z : ℕ) → z < f .vars → ProperCell (bareC (upd (f .cell) y c z))
+    cells-kept : (y : ℕ) (c : List ℕ) → ProperCell (bareC c) → (z : ℕ) → z < varsF f → ProperCell (bareC (upd (f .cell) y c z))
     cells-kept y c h z l = go (ℕ-discrete z y)
       where
         go : Dec (z ≡ y) → ProperCell (bareC (upd (f .cell) y c z))
         go (yes e) = rw (e, upd-same) h
         go (no e) = rw (upd-other (f .cell) y z c e) (ok .cells z l)
 
-    swapped-shape : 2 ≤ kindN was → kindN was ≤ 3 → 2 ≤ k → k ≤ 3 → Shape (focusF g (swapF f n k))
-    swapped-shape a b c d =
+    swapped-shape : IsBinding (kindN was) → IsBinding k → Shape (headF 3 g (swapF f n k))
+    swapped-shape a b =
         let long : length was ≡ nodeSize = buffer .node-long n in
         let p : List ℕ = swapN was k (bareC (f .cell x)) in
         let kind : kindN p ≡ k = swap-kind k (bareC (f .cell x)) was long in
         let same : SameNode p was = swap-same k (bareC (f .cell x)) was long in
         let stored : storedN p ≡ bareC (f .cell x) = swap-stored k was (bareC (f .cell x)) long (bare-length (f .cell x)) in
         let bare : bareC (putC (f .cell x) (storedN was)) ≡ storedN was = bare-put (f .cell x) (storedN was) (buffer .cell-long x) (stored-length was) in
-        let o = ok .nodes n inner below in
-        record {
-          head = head-kept (ok .head);
-          cells = cells-kept x (putC (f .cell x) (storedN was)) (rw bare (o .stored b));
-          top = upd-other (f .node) n 0 p (λ e. omega arith) ∙ ok .top;
-          nodes = nodes-kept p record {
-            low = omega arith;
-            high = omega arith;
-            parent = omega (arith, same .parent, o .parent);
-            var = λ z. omega (arith, same .var, o .var b);
-            zero = λ z. same .post ∙ o .zero b;
-            stored = λ z. rw stored (ok .cells x (o .var b));
-            still = λ z. absurd (omega arith);
-          };
-          blanks = λ m l h. upd-other (f .node) n m p (λ e. omega arith) ∙ ok .blanks m l h;
-        }
+        let o = shape-inners f ok n inner below in
+        shape-by-numbers (headF 3 g (swapF f n k)) (head-kept (ok .head))
+        (cells-kept x (putC (f .cell x) (storedN was)) (rw bare (o .stored a)))
+        (upd-other (f .node) n 0 p (λ e. omega arith) ∙ ok .top)
+        (nodes-kept p record {
+          node = rw kind (inl b);
+          parent = omega (arith, same .parent, o .parent);
+          var = λ z. omega (arith, same .var, o .var a);
+          zero = λ z. same .post ∙ o .zero a;
+          stored = λ z. rw stored (ok .cells x (o .var a));
+          still = λ z. absurd (not-both b (rw kind at z));
+        })
+        (λ m l h. upd-other (f .node) n m p (λ e. omega arith) ∙ shape-blanks f ok m l h)
 
-    wound-shape : 4 ≤ kindN was → kindN was ≤ 5 → 4 ≤ k → k ≤ 5 → Shape (focusF g (windF f n k))
-    wound-shape a b c d =
+    wound-shape : IsWind (kindN was) → IsWind k → Shape (headF 3 g (windF f n k))
+    wound-shape a b =
         let long : length was ≡ nodeSize = buffer .node-long n in
         let p : List ℕ = turnN was k in
         let kind : kindN p ≡ k = turn-kind k was long in
         let same : SameNode p was = turn-same k was long in
-        let o = ok .nodes n inner below in
-        record {
-          head = head-kept (ok .head);
-          cells = ok .cells;
-          top = upd-other (f .node) n 0 p (λ e. omega arith) ∙ ok .top;
-          nodes = nodes-kept p record {
-            low = omega arith;
-            high = omega arith;
-            parent = omega (arith, same .parent, o .parent);
-            var = λ z. absurd (omega arith);
-            zero = λ z. absurd (omega arith);
-            stored = λ z. absurd (omega arith);
-            still = λ z. turn-stored k was long ∙ o .still a;
-          };
-          blanks = λ m l h. upd-other (f .node) n m p (λ e. omega arith) ∙ ok .blanks m l h;
-        }
+        let o = shape-inners f ok n inner below in
+        shape-by-numbers (headF 3 g (windF f n k)) (head-kept (ok .head)) (ok .cells)
+        (upd-other (f .node) n 0 p (λ e. omega arith) ∙ ok .top)
+        (nodes-kept p record {
+          node = rw kind (inr b);
+          parent = omega (arith, same .parent, o .parent);
+          var = λ z. absurd (not-both (rw kind at z) b);
+          zero = λ z. absurd (not-both (rw kind at z) b);
+          stored = λ z. absurd (not-both (rw kind at z) b);
+          still = λ z. turn-stored k was long ∙ o .still a;
+        })
+        (λ m l h. upd-other (f .node) n m p (λ e. omega arith) ∙ shape-blanks f ok m l h)
 
 -- ---- a turn, on bytes
 pub wrote-swap : (s : List ℕ) (n k : ℕ) → Fit s → n < room s → varN (nodes s n) < vars s → Wrote s (swapB s n k) (swapF (fieldsOf s) n k)
@@ -198,7 +191,7 @@ wrote-swap s n k fit below known =
     let long : length p ≡ nodeSize = swap-length (nodes s n) k (bareC (cells s x)) ∙ of-buffer s fit .node-long n in
     let w : Wrote s t (nodeF n p (fieldsOf s)) = wrote-node s n p fit below long in
     let fit′ : Fit t = wrote-fit w refl refl fit in
-    let numbers = fields-numbers t (w .fields) in
+    let numbers = fields-number t (w .fields) 0 in
     let known′ : x < vars t = omega arith in
     let same : cellOf t x ≡ cells s x = sym (cell-in t x known′) ∙ ap (λ (f : Fields). f .cell x) (w .fields) in
     let c : List ℕ = putC (cells s x) (storedN (nodes s n)) in
@@ -214,17 +207,16 @@ wrote-wind s n k fit below =
     (wrote-node s n (turnN (nodes s n) k) fit below (turn-length (nodes s n) k ∙ of-buffer s fit .node-long n))
 
 -- ---- from fields that were written to the store that they are seen as
-pub becomes : {s t : List ℕ} {f : Fields} (w : store.Store) → Sound s → Wrote s t f → f .vars ≡ vars s → f .room ≡ room s → Shape f
+pub becomes : {s t : List ℕ} {f : Fields} (w : store.Store) → Sound s → Wrote s t f → varsF f ≡ vars s → roomF f ≡ room s → Shape f
     → viewF f ≡ w → store.Sound w → Becomes s t w
 unfolding view viewF
 becomes {s} {t} {f} w ok wrote v r shape seen sound =
     let fit : Fit t = wrote-fit wrote v r (sound-fit s ok) in
-    let numbers = fields-numbers t (wrote .fields) in
     let ins : store.Sound (viewF f) = rw seen sound in
     record {
-      sound = record { long = fit .long; fields = rw (wrote .fields) (record { shape = shape; ins = λ n l h. ins .modes n }) };
+      sound = record { long = fit .long; fields = rw (wrote .fields) (record { shape = shape; ins = ins .modes }) };
       seen = ap viewF (wrote .fields) ∙ seen;
-      kept = record { vars = numbers .0 ∙ v; room = numbers .1 ∙ r; long = wrote .long; past = wrote .rest };
+      kept = record { vars = fields-number t (wrote .fields) 0 ∙ v; room = fields-number t (wrote .fields) 1 ∙ r; long = wrote .long; past = wrote .rest };
     }
 
 module _ (s : List ℕ) (ok : Sound s) (n : ℕ) (inner : 1 ≤ n) (below : n < made s) where
@@ -233,7 +225,7 @@ module _ (s : List ℕ) (ok : Sound s) (n : ℕ) (inner : 1 ≤ n) (below : n < 
 
   node-ok : NodeOk (vars s) n (nodes s n)
   unfolding fieldsOf
-  node-ok = shape .nodes n inner below
+  node-ok = shape-inners (fieldsOf s) shape n inner below
 
   in-room : n < room s
   unfolding fieldsOf
@@ -243,45 +235,45 @@ module _ (s : List ℕ) (ok : Sound s) (n : ℕ) (inner : 1 ≤ n) (below : n < 
   pub sound-turns : Turns s n
   sound-turns =
       let o = rw (node-in s n in-room) at node-ok in
-      record { fit = sound-fit s ok; below = in-room; low = o .low; high = o .high; var = o .var }
+      record { fit = sound-fit s ok; below = in-room; node = o .node; var = o .var }
 
   -- a turn to a kind alike, with a made focus, is the exchange of the rules
   turn-becomes : (k g : ℕ) → Alike (kindN (nodes s n)) k → g < made s → store.Sound (turned (fieldsOf s) n k g) → Becomes s (moveB s n k g) (turned (fieldsOf s) n k g)
   unfolding moveB turnB fieldsOf
-  turn-becomes k g (inl (a, b, c, d)) goal sound =
+  turn-becomes k g (inl (a, b)) goal sound =
       let fit : Fit s = sound-fit s ok in
-      let w : Wrote s (swapB s n k) (swapF (fieldsOf s) n k) = wrote-swap s n k fit in-room (node-ok .var b) in
+      let w : Wrote s (swapB s n k) (swapF (fieldsOf s) n k) = wrote-swap s n k fit in-room (node-ok .var a) in
       let fit′ : Fit (swapB s n k) = wrote-fit w refl refl fit in
-      let all : Wrote s (moveB s n k g) (focusF g (swapF (fieldsOf s) n k)) =
-      rw (kind-binding (kindN (nodeOf s n)) _ _ _ _ (rw (node-in s n in-room) at a) (rw (node-in s n in-room) at b))
-      (subst (λ (f : Fields). Wrote s (withFocus (swapB s n k) g) (focusF g f)) (w .fields) (then w (wrote-focus (swapB s n k) g fit′))) in
+      let all : Wrote s (moveB s n k g) (headF 3 g (swapF (fieldsOf s) n k)) =
+      rw (kind-binding (kindN (nodeOf s n)) _ _ _ _ (rw (node-in s n in-room) at a))
+      (subst (λ (f : Fields). Wrote s (withFocus (swapB s n k) g) (headF 3 g f)) (w .fields) (then w (wrote-head (swapB s n k) 3 g fit′ (omega arith) (omega arith)))) in
       becomes (turned (fieldsOf s) n k g) ok all refl refl
-      (swapped-shape (fieldsOf s) (of-buffer s fit) n k g shape inner below goal a b c d)
-      (swapped-seen (fieldsOf s) (of-buffer s fit) n k g a b c d) sound
-  turn-becomes k g (inr (a, b, c, d)) goal sound =
+      (swapped-shape (fieldsOf s) (of-buffer s fit) n k g shape inner below goal a b)
+      (swapped-seen (fieldsOf s) (of-buffer s fit) n k g a b) sound
+  turn-becomes k g (inr (a, b)) goal sound =
       let fit : Fit s = sound-fit s ok in
       let w : Wrote s (withNode s n (turnN (nodeOf s n) k)) (windF (fieldsOf s) n k) = wrote-wind s n k fit in-room in
       let fit′ : Fit (withNode s n (turnN (nodeOf s n) k)) = wrote-fit w refl refl fit in
-      let all : Wrote s (moveB s n k g) (focusF g (windF (fieldsOf s) n k)) =
-      rw (kind-wind (kindN (nodeOf s n)) _ _ _ _ (rw (node-in s n in-room) at a) (rw (node-in s n in-room) at b))
-      (subst (λ (f : Fields). Wrote s (withFocus (withNode s n (turnN (nodeOf s n) k)) g) (focusF g f)) (w .fields) (then w (wrote-focus (withNode s n (turnN (nodeOf s n) k)) g fit′))) in
+      let all : Wrote s (moveB s n k g) (headF 3 g (windF (fieldsOf s) n k)) =
+      rw (kind-wind (kindN (nodeOf s n)) _ _ _ _ (rw (node-in s n in-room) at a))
+      (subst (λ (f : Fields). Wrote s (withFocus (withNode s n (turnN (nodeOf s n) k)) g) (headF 3 g f)) (w .fields) (then w (wrote-head (withNode s n (turnN (nodeOf s n) k)) 3 g fit′ (omega arith) (omega arith)))) in
       becomes (turned (fieldsOf s) n k g) ok all refl refl
-      (wound-shape (fieldsOf s) (of-buffer s fit) n k g shape inner below goal a b c d)
-      (wound-seen (fieldsOf s) (of-buffer s fit) n k g a b c d) sound
+      (wound-shape (fieldsOf s) (of-buffer s fit) n k g shape inner below goal a b)
+      (wound-seen (fieldsOf s) (of-buffer s fit) n k g a b) sound
 
 -- ---- in and out
 in-left : (k : ℕ) → Node k → isIn k ≡ true → Alike k (leftKind k) × (isIn (leftKind k) ≡ false)
 unfolding isIn
 in-left _ binding-out h = clash h refl
-in-left _ binding-in h = (inl (omega arith, omega arith, omega arith, omega arith), refl)
+in-left _ binding-in h = (inl (omega arith, omega arith), refl)
 in-left _ wind-out h = clash h refl
-in-left _ wind-in h = (inr (omega arith, omega arith, omega arith, omega arith), refl)
+in-left _ wind-in h = (inr (omega arith, omega arith), refl)
 
 out-entered : (k : ℕ) → Node k → isIn k ≡ false → Alike k (enteredKind k) × (isIn (enteredKind k) ≡ true)
 unfolding isIn
-out-entered _ binding-out h = (inl (omega arith, omega arith, omega arith, omega arith), refl)
+out-entered _ binding-out h = (inl (omega arith, omega arith), refl)
 out-entered _ binding-in h = clash refl h
-out-entered _ wind-out h = (inr (omega arith, omega arith, omega arith, omega arith), refl)
+out-entered _ wind-out h = (inr (omega arith, omega arith), refl)
 out-entered _ wind-in h = clash refl h
 
 -- ---- the two moves
@@ -294,10 +286,10 @@ module _ (s : List ℕ) (ok : Sound s) where
   unfolding view viewF treeF fieldsOf
   inner n p e =
       let (l, h, q) = inner-up (fieldsOf s) (of-buffer s (sound-fit s ok)) (ok .fields .shape) n p e in
-      (l, h, q, omega (arith, ok .fields .shape .nodes n l h .parent))
+      (l, h, q, omega (arith, shape-inners (fieldsOf s) (ok .fields .shape) n l h .parent))
 
   kind-of : (n : ℕ) → 1 ≤ n → n < made s → Node (kindN (nodes s n))
-  kind-of n l h = let o = node-ok s ok n l h in node-kind (kindN (nodes s n)) (o .low) (o .high)
+  kind-of n l h = node-kind (kindN (nodes s n)) (node-ok s ok n l h .node)
 
   pub leave-becomes : (p : ℕ) → seen .tree .up (focus s) ≡ some p → Becomes s (leaveB s) (store.leaveTo p seen)
   unfolding view viewF fieldsOf treeF

@@ -18,16 +18,16 @@ use Rattle.rules.specs.Calls.{valueAt, openWhat, opened, open-values}
 use Rattle.layout.specs.Limits.{maxVars, maxNodes, header, cellSize, bareSize, nodeSize, cellAt, nodeAt, sizeOf}
 use Rattle.layout.specs.Bytes.{part, splice, u16, part-length, part-at, part-left, part-right}
 use Rattle.layout.specs.Opening.{OpenFits, topCells}
-use Rattle.layout.specs.Records.{headOf, vars, room, made, focus, ProperCell, cellOf, bareC, topC, nodeOf, kindN, storedN, topNode, blankNode}
+use Rattle.layout.specs.Records.{headOf, headN, vars, room, made, focus, ProperCell, cellOf, bareC, topC, nodeOf, kindN, storedN, topNode, blankNode}
 use Rattle.layout.specs.Kinds.{isIn}
 use Rattle.layout.specs.Fields.{cells, nodes, fieldsOf, past}
 use Rattle.layout.specs.View.{asCell, whatN, upN, treeF, viewF, view}
-use Rattle.layout.specs.Sound.{Sound}
+use Rattle.layout.specs.Sound.{Shape, Sound}
 use Rattle.layout.specs.Made.{IsMade}
 use Rattle.layout.specs.Writes.{headB, openB}
-use Rattle.layout.specs.Laws.{node-in, node-past, cell-in, cell-past}
+use Rattle.layout.specs.Laws.{node-in, node-past, cell-in, cell-past, of-buffer}
 use Rattle.layout.specs.RecordLaws.{as-blank}
-use Rattle.layout.specs.SoundLaws.{what-top, what-blank, up-top, up-blank, in-top, in-blank}
+use Rattle.layout.specs.SoundLaws.{what-top, what-blank, up-top, up-blank, in-top, in-blank, shape-by-numbers, modes-by-numbers, headed-fit}
 
 -- ---- an opened store t, with the bytes `rest` past its size
 pub record Opens (v n : ℕ) (tops rest t : List ℕ) : Type 0 where
@@ -94,19 +94,19 @@ module _ (v n : ℕ) (tops rest : List ℕ) (ok : OpenFits v n tops) where
   head-is = refl
 
   vars-is : vars t ≡ v
-  unfolding vars u16 headB
+  unfolding headN u16 headB
   vars-is = ap (λ (h : List ℕ). u16 h 0) head-is ∙ omega arith
 
   room-is : room t ≡ n
-  unfolding room u16 headB
+  unfolding headN u16 headB
   room-is = ap (λ (h : List ℕ). u16 h 2) head-is ∙ omega arith
 
   made-is : made t ≡ 1
-  unfolding made u16 headB
+  unfolding headN u16 headB
   made-is = ap (λ (h : List ℕ). u16 h 4) head-is
 
   focus-is : focus t ≡ 0
-  unfolding focus u16 headB
+  unfolding headN u16 headB
   focus-is = ap (λ (h : List ℕ). u16 h 6) head-is
 
   size-is : length (openB v n tops) ≡ sizeOf v n
@@ -213,27 +213,31 @@ module _ (v n : ℕ) (tops rest : List ℕ) (ok : OpenFits v n tops) where
         let k : x < v = omega (arith, vars-is) in
         rw (cell-in t x h, cell-at x k) (proper x k)
 
+    long : sizeOf (vars t) (room t) ≤ length t
+    long = rw (vars-is, room-is) (omega (arith, length-append (openB v n tops) rest, size-is))
+
+    shape : Shape (fieldsOf t)
+    unfolding fieldsOf
+    shape =
+        shape-by-numbers (fieldsOf t)
+        (rw (vars-is, room-is, made-is, focus-is) record {
+          vars-low = ok .vars-low;
+          vars-high = ok .vars-high;
+          room-low = ok .room-low;
+          room-high = ok .room-high;
+          made-low = omega arith;
+          made-high = ok .room-low;
+          focus-made = omega arith;
+        })
+        cell-proper top-node (λ m l h. absurd (omega (arith, made-is))) (λ m l h. blank-node m (omega (arith, made-is)))
+
     sound-is : Sound t
     unfolding fieldsOf
     sound-is = record {
-      long = rw (vars-is, room-is) (omega (arith, length-append (openB v n tops) rest, size-is));
+      long = long;
       fields = record {
-        shape = record {
-          head = rw (vars-is, room-is, made-is, focus-is) record {
-            vars-low = ok .vars-low;
-            vars-high = ok .vars-high;
-            room-low = ok .room-low;
-            room-high = ok .room-high;
-            made-low = omega arith;
-            made-high = ok .room-low;
-            focus-made = omega arith;
-          };
-          cells = cell-proper;
-          top = top-node;
-          nodes = λ m l h. absurd (omega (arith, made-is));
-          blanks = λ m l h. blank-node m (omega (arith, made-is));
-        };
-        ins = λ m l h. absurd (omega (arith, made-is));
+        shape = shape;
+        ins = modes-by-numbers (fieldsOf t) (of-buffer t (headed-fit t (record { long = long; head = shape .head }))) shape (λ m l h. absurd (omega (arith, made-is)));
       };
     }
 

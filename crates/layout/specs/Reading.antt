@@ -18,13 +18,13 @@ use Rattle.rules.specs.Values.{valueBy, isAt, below, seek, orSeen, seek-below}
 use Rattle.rules.specs.Store.{home}
 use Rattle.rules.specs.Calls.{deciderAt, valueAt, peekOf, peek-shows}
 use Rattle.layout.specs.Records.{vars, room, focus, blankCell, ProperCell, cellOf, bareC, nodeOf, kindN, parentN, varN, postN, storedN, topNode}
-use Rattle.layout.specs.Kinds.{within, byKind, isOut}
+use Rattle.layout.specs.Kinds.{within, byKind, isOut, IsBinding}
 use Rattle.layout.specs.Fields.{nodes, fieldsOf, Fit}
 use Rattle.layout.specs.View.{asCell, whatN, upN, treeF, viewF, view}
 use Rattle.layout.specs.Sound.{NodeOk, Sound}
 use Rattle.layout.specs.Made.{IsMade}
 use Rattle.layout.specs.Laws.{node-in, cell-in}
-use Rattle.layout.specs.SoundLaws.{what-binding, up-node, up-top, sound-fit, sound-headed, sound-view}
+use Rattle.layout.specs.SoundLaws.{what-binding, up-node, up-top, sound-fit, sound-headed, sound-view, shape-inners}
 use Rattle.layout.specs.MoveLaws.{inner}
 use Rattle.layout.specs.WalkLaws.{made-seen, made-room, focus-made, out-up, in-above, parent-made}
 
@@ -74,8 +74,8 @@ pub record Seeks (s : List ℕ) (stop x n seen : ℕ) : Type 0 where
   pub left : seek (view s .tree .what) x (binderOf stop) (binderOf seen) (path (view s .tree) n) ≡ lastBelow s stop x
 
 -- ---- whether a node binds x, by its kind
-binds-binding : (p : List ℕ) (x : ℕ) → 2 ≤ kindN p → kindN p ≤ 3 → binds (whatN p) x ≡ eqb (varN p) x
-binds-binding p x l h = ap (λ (w : What). binds w x) (what-binding p l h)
+binds-binding : (p : List ℕ) (x : ℕ) → IsBinding (kindN p) → binds (whatN p) x ≡ eqb (varN p) x
+binds-binding p x is = ap (λ (w : What). binds w x) (what-binding p is)
 
 binds-other : (p : List ℕ) (x : ℕ) → within 2 (kindN p) 3 ≡ false → binds (whatN p) x ≡ false
 unfolding whatN byKind
@@ -104,7 +104,7 @@ module _ (s : List ℕ) (ok : Sound s) where
 
   inner-ok : (n : ℕ) → 1 ≤ n → IsMade s n → NodeOk (vars s) n (nodeOf s n)
   unfolding fieldsOf IsMade
-  inner-ok n l m = rw (node-made n m) at (ok .fields .shape .nodes n l m)
+  inner-ok n l m = rw (node-made n m) at (shape-inners (fieldsOf s) (ok .fields .shape) n l m)
 
   top-is : nodeOf s 0 ≡ topNode
   unfolding fieldsOf
@@ -116,7 +116,7 @@ module _ (s : List ℕ) (ok : Sound s) where
   -- the parent is the one that the record names
   pub up-is : (n : ℕ) → 1 ≤ n → IsMade s n → view s .tree .up n ≡ some (parentN (nodeOf s n))
   unfolding view viewF treeF fieldsOf
-  up-is n l m = let o = inner-ok n l m in ap upN (node-made n m) ∙ up-node (nodeOf s n) (o .low) (o .high)
+  up-is n l m = ap upN (node-made n m) ∙ up-node (nodeOf s n) (inner-ok n l m .node)
 
   pub up-made : (n : ℕ) → 1 ≤ n → IsMade s n → IsMade s (parentN (nodeOf s n))
   up-made n l m = parent-made s ok n (parentN (nodeOf s n)) (up-is n l m)
@@ -137,8 +137,8 @@ module _ (s : List ℕ) (ok : Sound s) where
   path-falls n l m = rw (path-next n l m) (omega arith)
 
   -- ---- whether the node n binds x
-  pub binds-yes : (n x : ℕ) → IsMade s n → 2 ≤ kindN (nodeOf s n) → kindN (nodeOf s n) ≤ 3 → binds (view s .tree .what n) x ≡ eqb (varN (nodeOf s n)) x
-  binds-yes n x m l h = ap (λ (w : What). binds w x) (what-is n m) ∙ binds-binding (nodeOf s n) x l h
+  pub binds-yes : (n x : ℕ) → IsMade s n → IsBinding (kindN (nodeOf s n)) → binds (view s .tree .what n) x ≡ eqb (varN (nodeOf s n)) x
+  binds-yes n x m is = ap (λ (w : What). binds w x) (what-is n m) ∙ binds-binding (nodeOf s n) x is
 
   pub binds-low : (n x : ℕ) → IsMade s n → kindN (nodeOf s n) < 2 → binds (view s .tree .what n) x ≡ false
   binds-low n x m h = ap (λ (w : What). binds w x) (what-is n m) ∙ binds-other (nodeOf s n) x (rw (lt-leb 2 (kindN (nodeOf s n)) h))
@@ -230,11 +230,10 @@ module _ (s : List ℕ) (ok : Sound s) where
     where
       go : Dec (n ≡ 0) → ProperCell (storedN (nodeOf s n))
       go (yes z) = inl (ap (λ (k : ℕ). storedN (nodeOf s k)) z ∙ ap storedN top-is ∙ stored-top)
-      go (no z) = by-kind (decLe (kindN (nodeOf s n)) 3) (inner-ok n (omega arith) m)
+      go (no z) = by-kind (inner-ok n (omega arith) m)
         where
-          by-kind : Dec (kindN (nodeOf s n) ≤ 3) → NodeOk (vars s) n (nodeOf s n) → ProperCell (storedN (nodeOf s n))
-          by-kind (yes l) o = o .stored l
-          by-kind (no l) o = inl (o .still (omega arith))
+          by-kind : NodeOk (vars s) n (nodeOf s n) → ProperCell (storedN (nodeOf s n))
+          by-kind o = ⊎-elim (λ is. o .stored is) (λ is. inl (o .still is)) (o .node)
 
   -- a made node that is not out is the top, or in
   not-out : (d : ℕ) → IsMade s d → isOut (kindN (nodeOf s d)) ≡ false → (d ≡ 0) ⊎ (view s .mode d ≡ true)

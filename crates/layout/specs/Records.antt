@@ -12,30 +12,34 @@ use mir.Val.{ofZ}
 use Rattle.layout.specs.Limits.{header, cellSize, bareSize, nodeSize, cellAt, nodeAt}
 use Rattle.layout.specs.Bytes.{part, splice, u16, put16}
 
--- ---- the header: V, N, made, focus
+-- ---- the header: its numbers in two bytes each, V, N, made, focus
 unfoldable pub headOf : List ℕ → List ℕ
 headOf s = part s 0 header
 
-unfoldable pub withHead : List ℕ → List ℕ → List ℕ
-withHead s h = splice s 0 header h
+-- the number k, and the header with another in its place
+unfoldable pub headN : List ℕ → ℕ → ℕ
+headN s k = u16 (headOf s) (2 * k)
 
-unfoldable pub vars : List ℕ → ℕ
-vars s = u16 (headOf s) 0
+unfoldable pub withHead : List ℕ → ℕ → ℕ → List ℕ
+withHead s k v = splice s 0 header (put16 (headOf s) (2 * k) v)
 
-unfoldable pub room : List ℕ → ℕ
-room s = u16 (headOf s) 2
+abbrev pub vars : List ℕ → ℕ
+vars s = headN s 0
 
-unfoldable pub made : List ℕ → ℕ
-made s = u16 (headOf s) 4
+abbrev pub room : List ℕ → ℕ
+room s = headN s 1
 
-unfoldable pub focus : List ℕ → ℕ
-focus s = u16 (headOf s) 6
+abbrev pub made : List ℕ → ℕ
+made s = headN s 2
 
-unfoldable pub withFocus : List ℕ → ℕ → List ℕ
-withFocus s f = withHead s (put16 (headOf s) 6 f)
+abbrev pub focus : List ℕ → ℕ
+focus s = headN s 3
 
-unfoldable pub withMade : List ℕ → ℕ → List ℕ
-withMade s m = withHead s (put16 (headOf s) 4 m)
+abbrev pub withMade : List ℕ → ℕ → List ℕ
+withMade s m = withHead s 2 m
+
+abbrev pub withFocus : List ℕ → ℕ → List ℕ
+withFocus s f = withHead s 3 f
 
 -- ---- a bare cell: its state, then its value in four bytes
 abbrev pub blankCell : List ℕ

@@ -18,7 +18,7 @@ use Rattle.rules.specs.Far.{far, far-lift, far-sym, far-self}
 use Rattle.rules.specs.Moves.{Event, left, entered, nodeOf, eventOf, route, route-left, route-entered, route-length, trace, trace-append, isWind, winds, length-event, length-trace}
 use Rattle.layout.specs.Records as records
 use Rattle.layout.specs.Records.{made, focus, kindN, parentN, varN, postN}
-use Rattle.layout.specs.Kinds.{byKind, within, isOut}
+use Rattle.layout.specs.Kinds.{byKind, within, isOut, IsWind}
 use Rattle.layout.specs.Fields.{fieldsOf}
 use Rattle.layout.specs.View.{whatN, treeF, viewF, view}
 use Rattle.layout.specs.Sound.{Sound}
@@ -164,13 +164,13 @@ within-high lo k hi e = go (leb lo k) e
     go false h = clash h refl
 
 -- a record of a kind that is no wind's has no events
-pub plain : (p : List ℕ) → (4 ≤ kindN p → kindN p ≤ 5 → ⊥) → isWind (whatN p) ≡ 0
+pub plain : (p : List ℕ) → (IsWind (kindN p) → ⊥) → isWind (whatN p) ≡ 0
 unfolding whatN byKind
 plain p h = go (within 2 (kindN p) 3) (within 4 (kindN p) 5) refl (eqb (kindN p) 1)
   where
     go : (b w : Bool) → within 4 (kindN p) 5 ≡ w → (o : Bool) → isWind (cond b (binding (varN p)) (cond w (wind (varN p) (postN p)) (cond o top blank))) ≡ 0
     go true w e o = refl
-    go false true e o = absurd (h (within-low 4 (kindN p) 5 e) (within-high 4 (kindN p) 5 e))
+    go false true e o = absurd (h (within-low 4 (kindN p) 5 e, within-high 4 (kindN p) 5 e))
     go false false e true = refl
     go false false e false = refl
 

@@ -24,8 +24,8 @@ use Rattle.rules.specs.Meaning.{home-means}
 use Rattle.rules.specs.Effects.{SameDeep}
 use Rattle.layout.specs.Limits.{header, cellSize, bareSize, nodeSize, cellAt, nodeAt, sizeOf}
 use Rattle.layout.specs.Bytes.{part, part-at, part-length, u16, by-tab}
-use Rattle.layout.specs.Records.{headOf, vars, room, made, focus, ProperCell, bitsC, cellOf, bareC, nodeOf, kindN, parentN, varN, postN, storedN, nodeB, topNode, blankNode}
-use Rattle.layout.specs.Kinds.{isIn, Node, binding-out, binding-in, wind-out, wind-in, node-kind}
+use Rattle.layout.specs.Records.{headOf, headN, vars, room, made, focus, ProperCell, bitsC, cellOf, bareC, nodeOf, kindN, parentN, varN, postN, storedN, nodeB, topNode, blankNode}
+use Rattle.layout.specs.Kinds.{isIn, Node, binding-out, binding-in, wind-out, wind-in, node-kind, IsBinding, IsWind, IsNode}
 use Rattle.layout.specs.Fields.{cells, nodes, fieldsOf, past}
 use Rattle.layout.specs.View.{asCell, whatN, upN, treeF, viewF, view}
 use Rattle.layout.specs.Sound.{NodeOk, Sound}
@@ -36,7 +36,7 @@ use Rattle.layout.specs.Becomes.{Becomes}
 use Rattle.layout.specs.Laws.{of-buffer, node-in, cell-in, node-past, cell-past}
 use Rattle.layout.specs.RecordLaws.{bare-length, stored-length, as-blank}
 use Rattle.layout.specs.OpenLaws.{stored-top, stored-blank}
-use Rattle.layout.specs.SoundLaws.{what-binding, what-wind, up-node, Place, is-top, is-inner, is-blank, place, blank-node, sound-fit, sound-view, up-inner, what-top, what-blank}
+use Rattle.layout.specs.SoundLaws.{what-binding, what-wind, up-node, Place, is-top, is-inner, is-blank, place, blank-node, sound-fit, sound-view, up-inner, what-top, what-blank, shape-inners, shape-blanks}
 use Rattle.layout.specs.WalkLaws.{made-seen, seen-made}
 
 -- every number is below 256 (past the end `getD` gives 0)
@@ -126,14 +126,14 @@ cell-once c d lc ld bc bd (inr e) (inr f) q =
 
 -- ---- an inner node is what it is seen as
 -- its kind: a binding's or a wind's, and in or out
-kind-binding : (k : ℕ) → Node k → k ≤ 3 → k ≡ 2 + bit (isIn k)
+kind-binding : (k : ℕ) → Node k → IsBinding k → k ≡ 2 + bit (isIn k)
 unfolding isIn
 kind-binding _ binding-out h = refl
 kind-binding _ binding-in h = refl
 kind-binding _ wind-out h = absurd (omega arith)
 kind-binding _ wind-in h = absurd (omega arith)
 
-kind-wind : (k : ℕ) → Node k → 4 ≤ k → k ≡ 4 + bit (isIn k)
+kind-wind : (k : ℕ) → Node k → IsWind k → k ≡ 4 + bit (isIn k)
 unfolding isIn
 kind-wind _ binding-out h = absurd (omega arith)
 kind-wind _ binding-in h = absurd (omega arith)
@@ -160,42 +160,42 @@ module _ (v n : ℕ) (p q : List ℕ) (op : NodeOk v n p) (oq : NodeOk v n q) (l
 
   -- both bindings, or both winds
   data Both : Type 0 where
-    bindings : kindN p ≤ 3 → kindN q ≤ 3 → Both
-    winds : 4 ≤ kindN p → 4 ≤ kindN q → Both
+    bindings : IsBinding (kindN p) → IsBinding (kindN q) → Both
+    winds : IsWind (kindN p) → IsWind (kindN q) → Both
 
   both : Both
-  both = go (decLe (kindN p) 3) (decLe (kindN q) 3)
+  both = go (op .node) (oq .node)
     where
-      go : Dec (kindN p ≤ 3) → Dec (kindN q ≤ 3) → Both
-      go (yes a) (yes b) = bindings a b
-      go (no a) (no b) = winds (omega arith) (omega arith)
-      go (yes a) (no b) =
-          let e : binding (varN p) ≡ wind (varN q) (postN q) = sym (what-binding p (op .low) a) ∙ same .what ∙ what-wind q (omega arith) (oq .high) in
+      go : IsNode (kindN p) → IsNode (kindN q) → Both
+      go (inl a) (inl b) = bindings a b
+      go (inr a) (inr b) = winds a b
+      go (inl a) (inr b) =
+          let e : binding (varN p) ≡ wind (varN q) (postN q) = sym (what-binding p a) ∙ same .what ∙ what-wind q b in
           absurd (let y : _≡_ {A = ℕ} 0 1 = cc in omega arith)
-      go (no a) (yes b) =
-          let e : binding (varN q) ≡ wind (varN p) (postN p) = sym (what-binding q (oq .low) b) ∙ sym (same .what) ∙ what-wind p (omega arith) (op .high) in
+      go (inr a) (inl b) =
+          let e : binding (varN q) ≡ wind (varN p) (postN p) = sym (what-binding q b) ∙ sym (same .what) ∙ what-wind p a in
           absurd (let y : _≡_ {A = ℕ} 0 1 = cc in omega arith)
 
   parents : parentN p ≡ parentN q
   parents =
-      let e : some (parentN p) ≡ some (parentN q) = sym (up-node p (op .low) (op .high)) ∙ same .up ∙ up-node q (oq .low) (oq .high) in
+      let e : some (parentN p) ≡ some (parentN q) = sym (up-node p (op .node)) ∙ same .up ∙ up-node q (oq .node) in
       cc
 
   fields : Both → (kindN p ≡ kindN q) × (varN p ≡ varN q) × (postN p ≡ postN q) × (storedN p ≡ storedN q)
   fields (bindings a b) =
-      let e : binding (varN p) ≡ binding (varN q) = sym (what-binding p (op .low) a) ∙ same .what ∙ what-binding q (oq .low) b in (
-        kind-binding (kindN p) (node-kind (kindN p) (op .low) (op .high)) a
+      let e : binding (varN p) ≡ binding (varN q) = sym (what-binding p a) ∙ same .what ∙ what-binding q b in (
+        kind-binding (kindN p) (node-kind (kindN p) (op .node)) a
             ∙ ap (λ (m : Bool). 2 + bit m) (same .mode)
-            ∙ sym (kind-binding (kindN q) (node-kind (kindN q) (oq .low) (oq .high)) b),
+            ∙ sym (kind-binding (kindN q) (node-kind (kindN q) (oq .node)) b),
         cc,
         op .zero a ∙ sym (oq .zero b),
         cell-once (storedN p) (storedN q) (stored-length p) (stored-length q) (stored-bytes p bp) (stored-bytes q bq) (op .stored a) (oq .stored b) (same .stored),
       )
   fields (winds a b) =
-      let e : wind (varN p) (postN p) ≡ wind (varN q) (postN q) = sym (what-wind p a (op .high)) ∙ same .what ∙ what-wind q b (oq .high) in (
-        kind-wind (kindN p) (node-kind (kindN p) (op .low) (op .high)) a
+      let e : wind (varN p) (postN p) ≡ wind (varN q) (postN q) = sym (what-wind p a) ∙ same .what ∙ what-wind q b in (
+        kind-wind (kindN p) (node-kind (kindN p) (op .node)) a
             ∙ ap (λ (m : Bool). 4 + bit m) (same .mode)
-            ∙ sym (kind-wind (kindN q) (node-kind (kindN q) (oq .low) (oq .high)) b),
+            ∙ sym (kind-wind (kindN q) (node-kind (kindN q) (oq .node)) b),
         cc,
         cc,
         op .still a ∙ sym (oq .still b),
@@ -232,7 +232,7 @@ module _ (s t : List ℕ) (ok : Sound s) (ok′ : Sound t) (bytes : Bytes s) (by
 
   -- the header
   heads : headOf s ≡ headOf t
-  unfolding headOf vars room made focus
+  unfolding headOf headN
   heads =
       sym (head-again (headOf s) (part-length s 0 header (omega (arith, ok .long))) (part-bytes s 0 header bytes))
       ∙ (λ i. headB (v i) (r i) (makes i) (focuses i))
@@ -261,9 +261,9 @@ module _ (s t : List ℕ) (ok : Sound s) (ok′ : Sound t) (bytes : Bytes s) (by
 
       go : Place (made s) n → nodes s n ≡ nodes t n
       go (is-top e) = rw e (ok .fields .shape .top ∙ sym (ok′ .fields .shape .top))
-      go (is-blank l) = ok .fields .shape .blanks n l h ∙ sym (ok′ .fields .shape .blanks n (omega (arith, makes)) h′)
+      go (is-blank l) = shape-blanks (fieldsOf s) (ok .fields .shape) n l h ∙ sym (shape-blanks (fieldsOf t) (ok′ .fields .shape) n (omega (arith, makes)) h′)
       go (is-inner l k) =
-          node-once (vars s) n (nodes s n) (nodes t n) (ok .fields .shape .nodes n l k) (rw v (ok′ .fields .shape .nodes n l (omega (arith, makes))))
+          node-once (vars s) n (nodes s n) (nodes t n) (shape-inners (fieldsOf s) (ok .fields .shape) n l k) (rw v (shape-inners (fieldsOf t) (ok′ .fields .shape) n l (omega (arith, makes))))
           (of-buffer s (sound-fit s ok) .node-long n) (of-buffer t (sound-fit t ok′) .node-long n)
           (rw (node-in s n h) (part-bytes s (nodeAt (vars s) n) nodeSize bytes)) (rw (node-in t n h′) (part-bytes t (nodeAt (vars t) n) nodeSize bytes′))
           (record {
@@ -336,14 +336,14 @@ module _ (s : List ℕ) (ok : Sound s) where
   unfolding view viewF treeF fieldsOf
   others-blank n other = go (place (made s) n)
     where
-      node : NodeOk (vars s) n (nodes s n) → Dec (kindN (nodes s n) ≤ 3) → asCell (storedN (nodes s n)) ≡ unbound
-      node o (yes a) = absurd (other (varN (nodes s n)) (what-binding (nodes s n) (o .low) a))
-      node o (no a) = ap asCell (o .still (omega arith)) ∙ as-blank
+      node : NodeOk (vars s) n (nodes s n) → IsNode (kindN (nodes s n)) → asCell (storedN (nodes s n)) ≡ unbound
+      node o (inl is) = absurd (other (varN (nodes s n)) (what-binding (nodes s n) is))
+      node o (inr is) = ap asCell (o .still is) ∙ as-blank
 
       go : Place (made s) n → asCell (storedN (nodes s n)) ≡ unbound
       go (is-top e) = ap (λ (p : List ℕ). asCell (storedN p)) (rw e (ok .fields .shape .top)) ∙ stored-top
       go (is-blank l) = ap (λ (p : List ℕ). asCell (storedN p)) (blank-node (fieldsOf s) (of-buffer s (sound-fit s ok)) (ok .fields .shape) n l) ∙ stored-blank
-      go (is-inner l k) = node (ok .fields .shape .nodes n l k) (decLe (kindN (nodes s n)) 3)
+      go (is-inner l k) = let o = shape-inners (fieldsOf s) (ok .fields .shape) n l k in node o (o .node)
 
 -- ---- two sound buffers that mean the same are seen alike: the meaning says the cells and what each binding stores, no
 -- other node stores anything, and the modes follow from the focus
@@ -436,13 +436,15 @@ module _ (s u : List ℕ) (agree : AgreeTo s u) where
   unfolding headOf
   agree-head = same-part 0 header (omega arith)
 
+  agree-number : (k : ℕ) → headN s k ≡ headN u k
+  unfolding headN
+  agree-number k = ap (λ (h : List ℕ). u16 h (2 * k)) agree-head
+
   pub agree-vars : vars s ≡ vars u
-  unfolding vars
-  agree-vars = ap (λ (h : List ℕ). u16 h 0) agree-head
+  agree-vars = agree-number 0
 
   pub agree-room : room s ≡ room u
-  unfolding room
-  agree-room = ap (λ (h : List ℕ). u16 h 2) agree-head
+  agree-room = agree-number 1
 
   same-cell-of : (x : ℕ) → x < vars s → cellOf s x ≡ cellOf u x
   unfolding cellOf
@@ -453,12 +455,9 @@ module _ (s u : List ℕ) (agree : AgreeTo s u) where
   same-node-of n h = same-part (nodeAt (vars s) n) nodeSize (omega arith) ∙ ap (λ (v : ℕ). part u (nodeAt v n) nodeSize) agree-vars
 
   pub agree-fields : fieldsOf s ≡ fieldsOf u
-  unfolding fieldsOf made focus
+  unfolding fieldsOf
   agree-fields = λ i. record {
-    vars = agree-vars i;
-    room = agree-room i;
-    made = u16 (agree-head i) 4;
-    focus = u16 (agree-head i) 6;
+    head = fun-ext agree-number i;
     cell = fun-ext (λ x. cell x (decLt x (vars s))) i;
     node = fun-ext (λ n. node n (decLt n (room s))) i;
   }

@@ -1,6 +1,7 @@
 -- Document 01's sentence "A store is sound when", clause by clause. Assumes nothing: these are definitions.
 use mathlib.Core.Path.{_≡_}
 use mathlib.Core.Bool.{Bool, true, false}
+use mathlib.Core.Logic.{_⊎_}
 use Prim.Native.Nat.{ℕ, _≤_, _<_}
 use mathlib.Core.List.{List}
 use lib.ListN.{length}
@@ -8,8 +9,8 @@ use Rattle.rules.specs.Basic.{on}
 use Rattle.rules.specs.Tree.{path}
 use Rattle.layout.specs.Limits.{maxVars, maxNodes, sizeOf}
 use Rattle.layout.specs.Records.{vars, room, made, focus, blankCell, ProperCell, bareC, kindN, parentN, varN, postN, storedN, topNode, blankNode}
-use Rattle.layout.specs.Kinds.{isIn}
-use Rattle.layout.specs.Fields.{Fields, fieldsOf}
+use Rattle.layout.specs.Kinds.{IsBinding, IsWind, IsNode, isIn}
+use Rattle.layout.specs.Fields.{Fields, fieldsOf, varsF, roomF, madeF, focusF}
 use Rattle.layout.specs.View.{treeF}
 
 -- the answer of a test: yes with a proof, or no with a refutation
@@ -17,16 +18,15 @@ abbrev pub Says : Bool → Type 0 → Type 0
 Says true P = P
 Says false P = P → ⊥
 
--- the node n, where there are v variables: kinds 2 to 5, a parent below its own number, for a binding a variable below V,
+-- the node n, where there are v variables: a binding or a wind, a parent below its own number, for a binding a variable below V,
 -- zero in place of the postlude and a proper stored cell, for a wind a zero stored state and value
 pub record NodeOk (v n : ℕ) (p : List ℕ) : Type 0 where
-  pub low : 2 ≤ kindN p
-  pub high : kindN p ≤ 5
+  pub node : IsNode (kindN p)
   pub parent : parentN p < n
-  pub var : kindN p ≤ 3 → varN p < v
-  pub zero : kindN p ≤ 3 → postN p ≡ 0
-  pub stored : kindN p ≤ 3 → ProperCell (storedN p)
-  pub still : 4 ≤ kindN p → storedN p ≡ blankCell
+  pub var : IsBinding (kindN p) → varN p < v
+  pub zero : IsBinding (kindN p) → postN p ≡ 0
+  pub stored : IsBinding (kindN p) → ProperCell (storedN p)
+  pub still : IsWind (kindN p) → storedN p ≡ blankCell
 
 -- V and N are in range; 1 ≤ made ≤ N; focus < made
 pub record HeadOk (v n made focus : ℕ) : Type 0 where
@@ -40,26 +40,27 @@ pub record HeadOk (v n made focus : ℕ) : Type 0 where
 
 -- every cell is proper
 abbrev pub CellsOk : Fields → Type 0
-CellsOk f = (x : ℕ) → x < f .vars → ProperCell (bareC (f .cell x))
+CellsOk f = (x : ℕ) → x < varsF f → ProperCell (bareC (f .cell x))
 
+-- every node but the top is all zero, or a node as above
 abbrev pub NodesOk : Fields → Type 0
-NodesOk f = (n : ℕ) → 1 ≤ n → n < f .made → NodeOk (f .vars) n (f .node n)
+NodesOk f = (n : ℕ) → 1 ≤ n → n < roomF f → (f .node n ≡ blankNode) ⊎ NodeOk (varsF f) n (f .node n)
 
--- nodes from made on are all zero
-abbrev pub BlanksOk : Fields → Type 0
-BlanksOk f = (n : ℕ) → f .made ≤ n → n < f .room → f .node n ≡ blankNode
+-- the made numbers have no gap: the nodes from made on, and no others, are all zero
+abbrev pub NoGap : Fields → Type 0
+NoGap f = (n : ℕ) → 1 ≤ n → n < roomF f → (f .node n ≡ blankNode → madeF f ≤ n) × (madeF f ≤ n → f .node n ≡ blankNode)
 
 -- every clause but the one on modes; node 0 has kind 1 and is zero otherwise
 pub record Shape (f : Fields) : Type 0 where
-  pub head : HeadOk (f .vars) (f .room) (f .made) (f .focus)
+  pub head : HeadOk (varsF f) (roomF f) (madeF f) (focusF f)
   pub cells : CellsOk f
   pub top : f .node 0 ≡ topNode
   pub nodes : NodesOk f
-  pub blanks : BlanksOk f
+  pub no-gap : NoGap f
 
 -- the in kinds are exactly the nodes on the path from focus to top, node 0 left out
 abbrev pub Ins : Fields → Type 0
-Ins f = (n : ℕ) → 1 ≤ n → n < f .made → isIn (kindN (f .node n)) ≡ on n (path (treeF (f .node)) (f .focus))
+Ins f = (n : ℕ) → isIn (kindN (f .node n)) ≡ on n (path (treeF (f .node)) (focusF f))
 
 pub record SoundF (f : Fields) : Type 0 where
   pub shape : Shape f

@@ -1,12 +1,12 @@
 -- A sound buffer is seen as a sound store of the rules, with the node's own number as the rank that falls towards the top.
 -- Assumes nothing.
 use mathlib.Core.Path.{_≡_, refl, sym, ap, _∙_}
-use mathlib.Core.Logic.{_≢_}
+use mathlib.Core.Logic.{_≢_, _⊎_, inl, inr}
 use mathlib.Core.Bool.{Bool, true, false}
 use mathlib.Core.Option.{Option, none, some}
 use Prim.Native.Nat.{ℕ, zero, suc, _≤_, _<_}
 use native.Mathlib.Omega.{arith}
-use native.Mathlib.Decide.{ℕ-discrete, decLt, decLe}
+use native.Mathlib.Decide.{ℕ-discrete, decLt}
 use mathlib.Core.List.{List}
 use lib.ListN.{length}
 use Rattle.rules.specs.Basic.{on, some≢none}
@@ -14,28 +14,24 @@ use Rattle.rules.specs.Tree.{What, blank, top, binding, wind, Tree, Proper, pat
 use Rattle.rules.specs.Store as store
 use Rattle.layout.specs.Limits.{sizeOf}
 use Rattle.layout.specs.Records.{vars, room, made, focus, kindN, parentN, varN, postN, topNode, blankNode}
-use Rattle.layout.specs.Kinds.{byKind, isIn, kind-binding, kind-wind}
-use Rattle.layout.specs.Fields.{Fields, fieldsOf, Fit}
+use Rattle.layout.specs.Kinds.{IsBinding, IsWind, IsNode, byKind, isIn, kind-binding, kind-wind, kind-node}
+use Rattle.layout.specs.Fields.{Fields, fieldsOf, Fit, roomF, madeF, focusF, varsF}
 use Rattle.layout.specs.View.{whatN, upN, treeF, viewF, view}
-use Rattle.layout.specs.Sound.{NodeOk, HeadOk, Shape, SoundF, Headed, Sound}
+use Rattle.layout.specs.Sound.{NodeOk, HeadOk, CellsOk, Shape, Ins, SoundF, Headed, Sound}
 use Rattle.layout.specs.Laws.{OfBuffer, of-buffer}
 
 -- ---- what a node's record says
-pub what-binding : (p : List ℕ) → 2 ≤ kindN p → kindN p ≤ 3 → whatN p ≡ binding (varN p)
+pub what-binding : (p : List ℕ) → IsBinding (kindN p) → whatN p ≡ binding (varN p)
 unfolding whatN
-what-binding p l h = kind-binding (kindN p) _ _ _ _ l h
+what-binding p is = kind-binding (kindN p) _ _ _ _ is
 
-pub what-wind : (p : List ℕ) → 4 ≤ kindN p → kindN p ≤ 5 → whatN p ≡ wind (varN p) (postN p)
+pub what-wind : (p : List ℕ) → IsWind (kindN p) → whatN p ≡ wind (varN p) (postN p)
 unfolding whatN
-what-wind p l h = kind-wind (kindN p) _ _ _ _ l h
+what-wind p is = kind-wind (kindN p) _ _ _ _ is
 
-pub up-node : (p : List ℕ) → 2 ≤ kindN p → kindN p ≤ 5 → upN p ≡ some (parentN p)
+pub up-node : (p : List ℕ) → IsNode (kindN p) → upN p ≡ some (parentN p)
 unfolding upN
-up-node p l h = go (decLe (kindN p) 3)
-  where
-    go : Dec (kindN p ≤ 3) → byKind (kindN p) (some (parentN p)) (some (parentN p)) none none ≡ some (parentN p)
-    go (yes k) = kind-binding (kindN p) _ _ _ _ l k
-    go (no k) = kind-wind (kindN p) _ _ _ _ (omega arith) h
+up-node p is = kind-node (kindN p) _ _ _ is
 
 pub what-top : whatN topNode ≡ top
 unfolding whatN topNode kindN byKind
@@ -61,12 +57,9 @@ pub in-blank : isIn (kindN blankNode) ≡ false
 unfolding isIn blankNode kindN
 in-blank = refl
 
-pub node-not-blank : (p : List ℕ) → 2 ≤ kindN p → kindN p ≤ 5 → whatN p ≢ blank
-node-not-blank p l h e = go (decLe (kindN p) 3)
-  where
-    go : Dec (kindN p ≤ 3) → ⊥
-    go (yes k) = let q = what-binding p l k in let z : _≡_ {A = ℕ} 0 1 = cc in omega arith
-    go (no k) = let q = what-wind p (omega arith) h in let z : _≡_ {A = ℕ} 0 1 = cc in omega arith
+pub node-not-blank : (p : List ℕ) → IsNode (kindN p) → whatN p ≢ blank
+node-not-blank p (inl is) e = let q = what-binding p is in let z : _≡_ {A = ℕ} 0 1 = cc in omega arith
+node-not-blank p (inr is) e = let q = what-wind p is in let z : _≡_ {A = ℕ} 0 1 = cc in omega arith
 
 -- ---- every number is the top, an inner node or a blank
 pub data Place (m n : ℕ) : Type 0 where
@@ -82,33 +75,70 @@ place m n = go (ℕ-discrete n 0) (decLt n m)
     go (no e) (yes l) = is-inner (omega arith) l
     go (no e) (no l) = is-blank (omega arith)
 
+-- ---- the same by numbers: the inner nodes are those from 1 to made, and the blank ones those from made on
+abbrev pub InnersOk : Fields → Type 0
+InnersOk f = (n : ℕ) → 1 ≤ n → n < madeF f → NodeOk (varsF f) n (f .node n)
+
+abbrev pub BlanksOk : Fields → Type 0
+BlanksOk f = (n : ℕ) → madeF f ≤ n → n < roomF f → f .node n ≡ blankNode
+
+-- a blank node is no binding and no wind
+pub blank-no-node : (p : List ℕ) → p ≡ blankNode → IsNode (kindN p) → ⊥
+blank-no-node p e is = node-not-blank p is (ap whatN e ∙ what-blank)
+
+module _ (f : Fields) where
+  pub shape-inners : Shape f → InnersOk f
+  shape-inners ok n l h = go (ok .nodes n l (omega (arith, ok .head .made-high)))
+    where
+      go : (f .node n ≡ blankNode) ⊎ NodeOk (varsF f) n (f .node n) → NodeOk (varsF f) n (f .node n)
+      go (inl e) = absurd (omega (arith, ok .no-gap n l (omega (arith, ok .head .made-high)) .0 e))
+      go (inr o) = o
+
+  pub shape-blanks : Shape f → BlanksOk f
+  shape-blanks ok n h l = ok .no-gap n (omega (arith, ok .head .made-low)) l .1 h
+
+  pub shape-by-numbers : HeadOk (varsF f) (roomF f) (madeF f) (focusF f) → CellsOk f → f .node 0 ≡ topNode → InnersOk f → BlanksOk f → Shape f
+  shape-by-numbers head cells zeroth inners blanks =
+      record { head = head; cells = cells; top = zeroth; nodes = λ n l h. nodes n l h (decLt n (madeF f)); no-gap = λ n l h. (gap n l, λ m. blanks n m h) }
+    where
+      nodes : (n : ℕ) → 1 ≤ n → n < roomF f → Dec (n < madeF f) → (f .node n ≡ blankNode) ⊎ NodeOk (varsF f) n (f .node n)
+      nodes n l h (yes m) = inr (inners n l m)
+      nodes n l h (no m) = inl (blanks n (omega arith) h)
+
+      gap : (n : ℕ) → 1 ≤ n → f .node n ≡ blankNode → madeF f ≤ n
+      gap n l e = go (decLt n (madeF f))
+        where
+          go : Dec (n < madeF f) → madeF f ≤ n
+          go (yes m) = absurd (blank-no-node (f .node n) e (inners n l m .node))
+          go (no m) = omega arith
+
 module _ (f : Fields) (buffer : OfBuffer f) (ok : Shape f) where
   -- past made every node is blank, past N too
-  pub blank-node : (n : ℕ) → f .made ≤ n → f .node n ≡ blankNode
-  blank-node n h = go (decLt n (f .room))
+  pub blank-node : (n : ℕ) → madeF f ≤ n → f .node n ≡ blankNode
+  blank-node n h = go (decLt n (roomF f))
     where
-      go : Dec (n < f .room) → f .node n ≡ blankNode
-      go (yes l) = ok .blanks n h l
+      go : Dec (n < roomF f) → f .node n ≡ blankNode
+      go (yes l) = shape-blanks f ok n h l
       go (no l) = buffer .node-end n (omega arith)
 
-  pub up-inner : (n : ℕ) → 1 ≤ n → n < f .made → upN (f .node n) ≡ some (parentN (f .node n))
-  up-inner n l h = let k = ok .nodes n l h in up-node (f .node n) (k .low) (k .high)
+  pub up-inner : (n : ℕ) → 1 ≤ n → n < madeF f → upN (f .node n) ≡ some (parentN (f .node n))
+  up-inner n l h = up-node (f .node n) (shape-inners f ok n l h .node)
 
-  pub not-blank : (n : ℕ) → n < f .made → whatN (f .node n) ≢ blank
-  not-blank n h e = go (place (f .made) n)
+  pub not-blank : (n : ℕ) → n < madeF f → whatN (f .node n) ≢ blank
+  not-blank n h e = go (place (madeF f) n)
     where
-      go : Place (f .made) n → ⊥
+      go : Place (madeF f) n → ⊥
       go (is-top z) =
           let q : top ≡ blank = sym what-top ∙ ap whatN (sym (ok .top)) ∙ (rw z at e) in
           let y : _≡_ {A = ℕ} 0 1 = cc in omega arith
-      go (is-inner l k) = let o = ok .nodes n l k in node-not-blank (f .node n) (o .low) (o .high) e
+      go (is-inner l k) = node-not-blank (f .node n) (shape-inners f ok n l k .node) e
       go (is-blank b) = omega arith
 
   -- a node with a parent is an inner one
-  pub inner-up : (n p : ℕ) → upN (f .node n) ≡ some p → (1 ≤ n) × (n < f .made) × (parentN (f .node n) ≡ p)
-  inner-up n p e = go (place (f .made) n)
+  pub inner-up : (n p : ℕ) → upN (f .node n) ≡ some p → (1 ≤ n) × (n < madeF f) × (parentN (f .node n) ≡ p)
+  inner-up n p e = go (place (madeF f) n)
     where
-      go : Place (f .made) n → (1 ≤ n) × (n < f .made) × (parentN (f .node n) ≡ p)
+      go : Place (madeF f) n → (1 ≤ n) × (n < madeF f) × (parentN (f .node n) ≡ p)
       go (is-top z) = some≢none e (ap (λ (m : ℕ). upN (f .node m)) z ∙ ap upN (ok .top) ∙ up-top)
       go (is-inner l k) = (l, k, (let q = up-inner n l k in cc))
       go (is-blank b) = some≢none e (ap upN (blank-node n b) ∙ up-blank)
@@ -116,45 +146,49 @@ module _ (f : Fields) (buffer : OfBuffer f) (ok : Shape f) where
   pub shape-proper : Proper (treeF (f .node))
   unfolding treeF
   shape-proper = record {
-    falls = λ a p e. let (l, h, q) = inner-up a p e in omega (arith, ok .nodes a l h .parent);
-    made-up = λ a p e. let (l, h, q) = inner-up a p e in not-blank p (omega (arith, ok .nodes a l h .parent));
-    blank-up = λ a e. no-parent a e (place (f .made) a);
-    one-top = λ a e u. top-only a e u (place (f .made) a);
+    falls = λ a p e. let (l, h, q) = inner-up a p e in omega (arith, shape-inners f ok a l h .parent);
+    made-up = λ a p e. let (l, h, q) = inner-up a p e in not-blank p (omega (arith, shape-inners f ok a l h .parent));
+    blank-up = λ a e. no-parent a e (place (madeF f) a);
+    one-top = λ a e u. top-only a e u (place (madeF f) a);
   }
     where
-      no-parent : (a : ℕ) → whatN (f .node a) ≡ blank → Place (f .made) a → upN (f .node a) ≡ none
+      no-parent : (a : ℕ) → whatN (f .node a) ≡ blank → Place (madeF f) a → upN (f .node a) ≡ none
       no-parent a e (is-top z) = ap (λ (m : ℕ). upN (f .node m)) z ∙ ap upN (ok .top) ∙ up-top
       no-parent a e (is-inner l h) = absurd (not-blank a h e)
       no-parent a e (is-blank b) = ap upN (blank-node a b) ∙ up-blank
 
-      top-only : (a : ℕ) → whatN (f .node a) ≢ blank → upN (f .node a) ≡ none → Place (f .made) a → a ≡ 0
+      top-only : (a : ℕ) → whatN (f .node a) ≢ blank → upN (f .node a) ≡ none → Place (madeF f) a → a ≡ 0
       top-only a e u (is-top z) = z
       top-only a e u (is-inner l h) = some≢none (up-inner a l h) u
       top-only a e u (is-blank b) = absurd (e (ap whatN (blank-node a b) ∙ what-blank))
 
   -- the top and the blanks are not in, and on no path
-  pub outer-modes : (n : ℕ) → upN (f .node n) ≡ none → Place (f .made) n → isIn (kindN (f .node n)) ≡ on n (path (treeF (f .node)) (f .focus))
+  outer-modes : (n : ℕ) → upN (f .node n) ≡ none → Place (madeF f) n → isIn (kindN (f .node n)) ≡ on n (path (treeF (f .node)) (focusF f))
   unfolding treeF
-  outer-modes n u q = mode q ∙ sym (on-path-up (treeF (f .node)) shape-proper (f .focus) n u)
+  outer-modes n u q = mode q ∙ sym (on-path-up (treeF (f .node)) shape-proper (focusF f) n u)
     where
-      mode : Place (f .made) n → isIn (kindN (f .node n)) ≡ false
+      mode : Place (madeF f) n → isIn (kindN (f .node n)) ≡ false
       mode (is-top z) = ap (λ (m : ℕ). isIn (kindN (f .node m))) z ∙ ap (λ (p : List ℕ). isIn (kindN p)) (ok .top) ∙ in-top
       mode (is-inner l h) = some≢none (up-inner n l h) u
       mode (is-blank b) = ap (λ (p : List ℕ). isIn (kindN p)) (blank-node n b) ∙ in-blank
+
+  -- so it is the inner nodes' modes that count
+  pub modes-by-numbers : ((n : ℕ) → 1 ≤ n → n < madeF f → isIn (kindN (f .node n)) ≡ on n (path (treeF (f .node)) (focusF f))) → Ins f
+  modes-by-numbers inners n = go (place (madeF f) n)
+    where
+      go : Place (madeF f) n → isIn (kindN (f .node n)) ≡ on n (path (treeF (f .node)) (focusF f))
+      go (is-inner l h) = inners n l h
+      go (is-top z) = outer-modes n (ap (λ (m : ℕ). upN (f .node m)) z ∙ ap upN (ok .top) ∙ up-top) (is-top z)
+      go (is-blank b) = outer-modes n (ap upN (blank-node n b) ∙ up-blank) (is-blank b)
 
 -- ---- sound fields are seen as a sound store
 pub seen-sound : (f : Fields) → OfBuffer f → SoundF f → store.Sound (viewF f)
 unfolding viewF treeF
 seen-sound f buffer ok = record {
   proper = shape-proper f buffer (ok .shape);
-  focus-made = not-blank f buffer (ok .shape) (f .focus) (ok .shape .head .focus-made);
-  modes = λ n. modes n (place (f .made) n);
+  focus-made = not-blank f buffer (ok .shape) (focusF f) (ok .shape .head .focus-made);
+  modes = ok .ins;
 }
-  where
-    modes : (n : ℕ) → Place (f .made) n → isIn (kindN (f .node n)) ≡ on n (path (treeF (f .node)) (f .focus))
-    modes n (is-inner l h) = ok .ins n l h
-    modes n (is-top z) = outer-modes f buffer (ok .shape) n (ap (λ (m : ℕ). upN (f .node m)) z ∙ ap upN (ok .shape .top) ∙ up-top) (is-top z)
-    modes n (is-blank b) = outer-modes f buffer (ok .shape) n (ap upN (blank-node f buffer (ok .shape) n b) ∙ up-blank) (is-blank b)
 
 -- ---- of buffers
 pub headed-fit : (s : List ℕ) → Headed s → Fit s

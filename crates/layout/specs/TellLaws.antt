@@ -1,7 +1,7 @@
 -- A switch's events told: the leaving ones forward from the focus, the entering ones backward from the target, both up to the
 -- meeting point. Assumes nothing.
 use mathlib.Core.Path.{_≡_, refl, sym, ap, _∙_}
-use mathlib.Core.Logic.{_≢_}
+use mathlib.Core.Logic.{_≢_, inr}
 use mathlib.Core.Bool.{Bool, true, false}
 use mathlib.Core.Option.{Option, some}
 use Prim.Native.Nat.{ℕ, suc, _+_, _*_, _≤_, _<_}
@@ -15,6 +15,7 @@ use Rattle.layout.specs.Limits.{eventSize}
 use Rattle.layout.specs.Bytes.{splice}
 use Rattle.layout.specs.Records.{focus, nodeOf, kindN, parentN, varN, postN}
 use Rattle.layout.specs.Fields.{fieldsOf}
+use Rattle.layout.specs.Kinds.{IsWind}
 use Rattle.layout.specs.View.{upN, treeF, viewF, view}
 use Rattle.layout.specs.Sound.{Sound}
 use Rattle.layout.specs.Events.{eventD, told, eventsFrom, eventsTo}
@@ -47,42 +48,42 @@ module _ (s : List ℕ) (ok : Sound s) where
   t = view s .tree
 
   module _ (n : ℕ) (made : IsMade s n) where
-    parent : 4 ≤ kindN (nodeOf s n) → kindN (nodeOf s n) ≤ 5 → t .up n ≡ some (parentN (nodeOf s n))
+    parent : IsWind (kindN (nodeOf s n)) → t .up n ≡ some (parentN (nodeOf s n))
     unfolding view viewF treeF fieldsOf
-    parent l h = ap upN (node-in s n (made-room s ok n made)) ∙ up-node (nodeOf s n) (omega arith) h
+    parent is = ap upN (node-in s n (made-room s ok n made)) ∙ up-node (nodeOf s n) (inr is)
 
-    left-wind : 4 ≤ kindN (nodeOf s n) → kindN (nodeOf s n) ≤ 5 → leftEvents s n ≡ record { entering = false; thunk = postN (nodeOf s n); place = parentN (nodeOf s n) } ∷ []
-    left-wind l h =
-        ap (λ (w : What). windEvent false w (orTop (t .up n))) (what-node s ok n made ∙ what-wind (nodeOf s n) l h)
-        ∙ ap (λ (o : Option ℕ). windEvent false (wind (varN (nodeOf s n)) (postN (nodeOf s n))) (orTop o)) (parent l h)
+    left-wind : IsWind (kindN (nodeOf s n)) → leftEvents s n ≡ record { entering = false; thunk = postN (nodeOf s n); place = parentN (nodeOf s n) } ∷ []
+    left-wind is =
+        ap (λ (w : What). windEvent false w (orTop (t .up n))) (what-node s ok n made ∙ what-wind (nodeOf s n) is)
+        ∙ ap (λ (o : Option ℕ). windEvent false (wind (varN (nodeOf s n)) (postN (nodeOf s n))) (orTop o)) (parent is)
 
-    left-none : (4 ≤ kindN (nodeOf s n) → kindN (nodeOf s n) ≤ 5 → ⊥) → leftEvents s n ≡ []
+    left-none : (IsWind (kindN (nodeOf s n)) → ⊥) → leftEvents s n ≡ []
     left-none h = no-wind false (t .what n) (orTop (t .up n)) (ap isWind (what-node s ok n made) ∙ plain (nodeOf s n) h)
 
-    entered-wind : 4 ≤ kindN (nodeOf s n) → kindN (nodeOf s n) ≤ 5 → enteredEvents s n ≡ record { entering = true; thunk = varN (nodeOf s n); place = parentN (nodeOf s n) } ∷ []
-    entered-wind l h =
-        ap (λ (w : What). windEvent true w (orTop (t .up n))) (what-node s ok n made ∙ what-wind (nodeOf s n) l h)
-        ∙ ap (λ (o : Option ℕ). windEvent true (wind (varN (nodeOf s n)) (postN (nodeOf s n))) (orTop o)) (parent l h)
+    entered-wind : IsWind (kindN (nodeOf s n)) → enteredEvents s n ≡ record { entering = true; thunk = varN (nodeOf s n); place = parentN (nodeOf s n) } ∷ []
+    entered-wind is =
+        ap (λ (w : What). windEvent true w (orTop (t .up n))) (what-node s ok n made ∙ what-wind (nodeOf s n) is)
+        ∙ ap (λ (o : Option ℕ). windEvent true (wind (varN (nodeOf s n)) (postN (nodeOf s n))) (orTop o)) (parent is)
 
-    entered-none : (4 ≤ kindN (nodeOf s n) → kindN (nodeOf s n) ≤ 5 → ⊥) → enteredEvents s n ≡ []
+    entered-none : (IsWind (kindN (nodeOf s n)) → ⊥) → enteredEvents s n ≡ []
     entered-none h = no-wind true (t .what n) (orTop (t .up n)) (ap isWind (what-node s ok n made) ∙ plain (nodeOf s n) h)
 
     -- a wind's event, put at its number
-    module _ (low : 4 ≤ kindN (nodeOf s n)) (high : kindN (nodeOf s n) ≤ 5) (now after : List ℕ) where
+    module _ (is : IsWind (kindN (nodeOf s n))) (now after : List ℕ) where
       pub left-one : length (leftEvents s n) ≡ 1
-      left-one = ap length (left-wind low high)
+      left-one = ap length (left-wind is)
 
       pub left-told : (e q p : ℕ) → q ≡ postN (nodeOf s n) → p ≡ parentN (nodeOf s n) → after ≡ splice now (eventSize * e) eventSize (eventD 0 q p) → after ≡ toldAt e (leftEvents s n) now
-      left-told e q p f g h = h ∙ rw (f, g, left-wind low high) (sym (told-left e (postN (nodeOf s n)) (parentN (nodeOf s n)) now))
+      left-told e q p f g h = h ∙ rw (f, g, left-wind is) (sym (told-left e (postN (nodeOf s n)) (parentN (nodeOf s n)) now))
 
       pub entered-one : length (enteredEvents s n) ≡ 1
-      entered-one = ap length (entered-wind low high)
+      entered-one = ap length (entered-wind is)
 
       pub entered-told : (e q p : ℕ) → q ≡ varN (nodeOf s n) → p ≡ parentN (nodeOf s n) → after ≡ splice now (eventSize * e) eventSize (eventD 1 q p) → after ≡ toldAt e (enteredEvents s n) now
-      entered-told e q p f g h = h ∙ rw (f, g, entered-wind low high) (sym (told-entered e (varN (nodeOf s n)) (parentN (nodeOf s n)) now))
+      entered-told e q p f g h = h ∙ rw (f, g, entered-wind is) (sym (told-entered e (varN (nodeOf s n)) (parentN (nodeOf s n)) now))
 
     -- no event of any other node
-    module _ (other : 4 ≤ kindN (nodeOf s n) → kindN (nodeOf s n) ≤ 5 → ⊥) (e : ℕ) (now : List ℕ) where
+    module _ (other : IsWind (kindN (nodeOf s n)) → ⊥) (e : ℕ) (now : List ℕ) where
       pub left-kept : (e ≡ e + length (leftEvents s n)) × (now ≡ toldAt e (leftEvents s n) now)
       left-kept = (omega (arith, ap length (left-none other)), rw (left-none other) (sym (told-none e now)))
 

@@ -14,7 +14,7 @@ use Rattle.rules.specs.Values.{Cell, unbound, value}
 use Rattle.rules.specs.Store.{Store}
 use Rattle.layout.specs.Records.{bitsC, bareC, kindN, parentN, varN, postN, storedN}
 use Rattle.layout.specs.Kinds.{byKind, isIn}
-use Rattle.layout.specs.Fields.{Fields, fieldsOf}
+use Rattle.layout.specs.Fields.{Fields, fieldsOf, focusF}
 
 -- a bare cell: state 0 is unbound, else the value in two's complement
 unfoldable pub asCell : List ℕ → Cell
@@ -32,7 +32,7 @@ treeF node = record { what = λ n. whatN (node n); up = λ n. upN (node n); rank
 unfoldable pub viewF : Fields → Store
 viewF f = record {
   tree = treeF (f .node);
-  focus = f .focus;
+  focus = focusF f;
   values = record { cell = λ x. asCell (bareC (f .cell x)); stored = λ n. asCell (storedN (f .node n)) };
   mode = λ n. isIn (kindN (f .node n));
 }

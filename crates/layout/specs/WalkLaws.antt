@@ -16,17 +16,17 @@ use Rattle.rules.specs.Store.{goto, goto-focus, goto-tree, goto-sound, goto-her
 use Rattle.rules.specs.Walk.{Turn, arrived, outside, above, turn, goto-out, goto-in, far-out, far-in}
 use Rattle.layout.specs.Limits.{nodeSize}
 use Rattle.layout.specs.Records.{vars, room, made, focus, nodeOf, withNode, kindN, parentN, swapN, topNode}
-use Rattle.layout.specs.Kinds.{isIn, isOut, kind-binding, kind-wind, Node, binding-out, binding-in, wind-out, wind-in, node-kind}
-use Rattle.layout.specs.Fields.{Fields, fieldsOf, nodes, Fit}
+use Rattle.layout.specs.Kinds.{isIn, isOut, kind-binding, kind-wind, Node, binding-out, binding-in, wind-out, wind-in, node-kind, IsNode}
+use Rattle.layout.specs.Fields.{Fields, fieldsOf, nodes, Fit, varsF, roomF}
 use Rattle.layout.specs.View.{whatN, upN, treeF, viewF, view}
 use Rattle.layout.specs.Sound.{Sound}
 use Rattle.layout.specs.Writes.{turnB, leaveB, enterB, Turns}
 use Rattle.layout.specs.Made.{IsMade}
 use Rattle.layout.specs.Becomes.{Kept, Becomes}
 use Rattle.layout.specs.Routes.{movesTo}
-use Rattle.layout.specs.Laws.{of-buffer, node-in, Wrote, wrote-node, wrote-fit, fields-numbers}
+use Rattle.layout.specs.Laws.{of-buffer, node-in, Wrote, wrote-node, wrote-fit, fields-number}
 use Rattle.layout.specs.RecordLaws.{swap-length, turn-same, swap-same}
-use Rattle.layout.specs.SoundLaws.{Place, is-top, is-inner, is-blank, place, what-blank, up-top, up-inner, blank-node, not-blank, sound-fit, sound-view}
+use Rattle.layout.specs.SoundLaws.{Place, is-top, is-inner, is-blank, place, what-blank, up-top, up-inner, blank-node, not-blank, sound-fit, sound-view, shape-inners}
 use Rattle.layout.specs.MoveLaws.{wrote-swap, wrote-wind, sound-turns, inner, leave-becomes, enter-becomes}
 
 -- ---- one after the other
@@ -45,7 +45,7 @@ unfolding fieldsOf
 swapped-fits s t n k c fit below e =
     let long : length (swapN (nodeOf s n) k c) ≡ nodeSize = swap-length (nodeOf s n) k c ∙ ap length (sym (node-in s n below)) ∙ of-buffer s fit .node-long n in
     let w = wrote-node s n (swapN (nodeOf s n) k c) fit below long in
-    rw e (wrote-fit w refl refl fit, fields-numbers (withNode s n (swapN (nodeOf s n) k c)) (w .fields) .0)
+    rw e (wrote-fit w refl refl fit, fields-number (withNode s n (swapN (nodeOf s n) k c)) (w .fields) 0)
 
 -- ---- a turn: the buffer still fits, and the node keeps its parent
 pub record Turned (s t : List ℕ) (n : ℕ) : Type 0 where
@@ -53,10 +53,10 @@ pub record Turned (s t : List ℕ) (n : ℕ) : Type 0 where
   pub below : n < room t
   pub parent : parentN (nodeOf t n) ≡ parentN (nodeOf s n)
 
-turned-from : {s t : List ℕ} {f : Fields} (n : ℕ) → Wrote s t f → f .vars ≡ vars s → f .room ≡ room s → Fit s → n < room s → parentN (f .node n) ≡ parentN (nodes s n) → Turned s t n
+turned-from : {s t : List ℕ} {f : Fields} (n : ℕ) → Wrote s t f → varsF f ≡ vars s → roomF f ≡ room s → Fit s → n < room s → parentN (f .node n) ≡ parentN (nodes s n) → Turned s t n
 unfolding fieldsOf
 turned-from {s} {t} n w v r fit below same =
-    let numbers = fields-numbers t (w .fields) in
+    let rooms = fields-number t (w .fields) 1 in
     let inside : n < room t = omega arith in
     record {
       fit = wrote-fit w v r fit;
@@ -66,18 +66,18 @@ turned-from {s} {t} n w v r fit below same =
 
 pub turned : (s : List ℕ) (n k : ℕ) → Turns s n → Turned s (turnB s n k) n
 unfolding turnB fieldsOf
-turned s n k h = go (decLe (kindN (nodeOf s n)) 3)
+turned s n k h = go (h .node)
   where
     long : length (nodes s n) ≡ nodeSize
     long = of-buffer s (h .fit) .node-long n
 
-    go : Dec (kindN (nodeOf s n) ≤ 3) → Turned s (turnB s n k) n
-    go (yes b) =
-        rw (kind-binding (kindN (nodeOf s n)) _ _ _ _ (h .low) b)
+    go : IsNode (kindN (nodeOf s n)) → Turned s (turnB s n k) n
+    go (inl b) =
+        rw (kind-binding (kindN (nodeOf s n)) _ _ _ _ b)
         (turned-from n (wrote-swap s n k (h .fit) (h .below) (rw (node-in s n (h .below)) (h .var b))) refl refl (h .fit) (h .below)
         (ap parentN (upd-same (nodes s) n _) ∙ swap-same k _ (nodes s n) long .parent))
-    go (no b) =
-        rw (kind-wind (kindN (nodeOf s n)) _ _ _ _ (omega arith) (h .high))
+    go (inr b) =
+        rw (kind-wind (kindN (nodeOf s n)) _ _ _ _ b)
         (turned-from n (wrote-wind s n k (h .fit) (h .below)) refl refl (h .fit) (h .below)
         (ap parentN (upd-same (nodes s) n _) ∙ turn-same k (nodes s n) long .parent))
 
@@ -142,8 +142,8 @@ module _ (s : List ℕ) (ok : Sound s) where
       go : Place (made s) a → (upN (nodes s a) ≡ some (parentN (nodes s a))) × (isIn (kindN (nodes s a)) ≡ false)
       go (is-top z) = clash out (rw z (ap (λ (p : List ℕ). isOut (kindN p)) (ok .fields .shape .top) ∙ out-top))
       go (is-inner l k) =
-          let o = ok .fields .shape .nodes a l k in
-          (up-inner (fieldsOf s) (of-buffer s (sound-fit s ok)) (ok .fields .shape) a l k, not-true _ (sym (out-not-in _ (node-kind _ (o .low) (o .high))) ∙ out))
+          let o = shape-inners (fieldsOf s) (ok .fields .shape) a l k in
+          (up-inner (fieldsOf s) (of-buffer s (sound-fit s ok)) (ok .fields .shape) a l k, not-true _ (sym (out-not-in _ (node-kind _ (o .node))) ∙ out))
       go (is-blank b) = absurd (omega arith)
 
   pub in-above : (a : ℕ) → IsMade s a → isOut (kindN (nodeOf s a)) ≡ false → (seen .tree .up a ≡ none) ⊎ (seen .mode a ≡ true)
@@ -155,7 +155,7 @@ module _ (s : List ℕ) (ok : Sound s) where
 
       go : Place (made s) a → (upN (nodes s a) ≡ none) ⊎ (isIn (kindN (nodes s a)) ≡ true)
       go (is-top z) = inl (rw z (ap upN (ok .fields .shape .top) ∙ up-top))
-      go (is-inner l k) = let o = ok .fields .shape .nodes a l k in inr (not-false _ (sym (out-not-in _ (node-kind _ (o .low) (o .high))) ∙ not-out))
+      go (is-inner l k) = let o = shape-inners (fieldsOf s) (ok .fields .shape) a l k in inr (not-false _ (sym (out-not-in _ (node-kind _ (o .node))) ∙ not-out))
       go (is-blank b) = absurd (omega arith)
 
   -- the parent that a node's record names

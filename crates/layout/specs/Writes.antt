@@ -8,7 +8,7 @@ use lib.IntN.{ℤ}
 use Rattle.rules.specs.Moves.{Event}
 use Rattle.layout.specs.Limits.{nodeSize, eventSize}
 use Rattle.layout.specs.Records.{vars, room, made, focus, withFocus, withMade, blankCell, valueC, cellOf, withCell, bareC, putC, nodeOf, withNode, kindN, parentN, varN, storedN, turnN, swapN, nodeB, topNode}
-use Rattle.layout.specs.Kinds.{byKind, leftKind, enteredKind}
+use Rattle.layout.specs.Kinds.{byKind, leftKind, enteredKind, IsBinding, IsNode}
 use Rattle.layout.specs.Fields.{Fit}
 
 -- the cell of the binding n and its stored cell change places, and n's kind becomes k
@@ -36,9 +36,8 @@ enterB s n = moveB s n (enteredKind (kindN (nodeOf s n))) n
 pub record Turns (s : List ℕ) (n : ℕ) : Type 0 where
   pub fit : Fit s
   pub below : n < room s
-  pub low : 2 ≤ kindN (nodeOf s n)
-  pub high : kindN (nodeOf s n) ≤ 5
-  pub var : kindN (nodeOf s n) ≤ 3 → varN (nodeOf s n) < vars s
+  pub node : IsNode (kindN (nodeOf s n))
+  pub var : IsBinding (kindN (nodeOf s n)) → varN (nodeOf s n) < vars s
 
 -- the cell of x takes the value v
 unfoldable pub setB : List ℕ → ℕ → ℤ → List ℕ

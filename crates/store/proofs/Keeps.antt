@@ -156,7 +156,7 @@ module _ (s : List ℕ) (x : ℕ) (v : ℤ) where
   bind-full ok l h = record { answers = skip (λ h. h ok) (skip (λ h. omega arith) (give (fullRow s) h (omega arith) tt refl)) }
 
   pub bind-done : Sound s → x < vars s → (IsFull s → ⊥) → SFits w32 v → (n : ℕ) → n ≡ nextOf s → BindPromise s x v (bindB s x v) (numbers (Made (record { node = n; events = 0 })))
-  unfolding numbers meaning at view viewF fieldsOf home nextOf focus
+  unfolding numbers meaning at view viewF fieldsOf home nextOf
   bind-done ok l space fits n same =
       let b = bind-becomes s ok space x l v fits in
       let can = can-grow s ok space (binding x) (is-binding x refl) in
@@ -207,7 +207,7 @@ module _ (s t : List ℕ) (p q : ℕ) where
 
   pub wind-done : Sound s → (IsFull s → ⊥) → 1 ≤ roomFor t
       → WindPromise s t p q (windB s p q) (told (entering s p) t) (numbers (Made (record { node = nextOf s; events = 1 })))
-  unfolding numbers meaning at view viewF fieldsOf home nextOf focus
+  unfolding numbers meaning at view viewF fieldsOf home nextOf
   wind-done ok space h =
       let b = wind-becomes s ok space p q in
       let can = can-grow s ok space (wind p q) (is-wind p q refl) in

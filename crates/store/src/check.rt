@@ -7,10 +7,11 @@ ghost use lib.ListN.{length, getD, replicate};
 ghost use Rattle.rules.specs.Modes.{count};
 ghost use Rattle.layout.specs.Limits.{bareSize, nodeSize};
 ghost use Rattle.layout.specs.Records.{vars, made, ProperCell, bareC, topC, kindN, varN, postN, storedN, blankCell, topNode};
-ghost use Rattle.layout.specs.Kinds.{isIn};
 ghost use Rattle.layout.specs.CheckLaws.{modeF, Counted};
 ghost use Rattle.layout.specs.Fields.{Fit, fieldsOf};
-ghost use Rattle.layout.specs.Sound.{Says, NodeOk, HeadOk, Headed, CellsOk, NodesOk, BlanksOk, Shape, Ins, Sound};
+ghost use Rattle.layout.specs.Sound.{Says, NodeOk, HeadOk, Headed, CellsOk, Shape, Ins, Sound};
+ghost use Rattle.layout.specs.SoundLaws.{InnersOk, BlanksOk};
+use crate::kinds::is_in;
 use crate::number::u16_at;
 use crate::records::bare_of;
 use crate::records::cell;
@@ -164,16 +165,6 @@ fn node_ok(p: &[u8], n: usize, v: usize) -> bool
     }
 }
 
-// In, of a binding or a wind.
-pub(crate) fn is_in(k: u8) -> bool
-    ensures { λ r. ⌜ r ≡ isIn k ⌝ }
-{
-    match k {
-        3 | 5 => true,
-        _ => false,
-    }
-}
-
 // What a pass over the nodes finds: whether all is as it should be, and then how many are in.
 struct Pass {
     ok: bool,
@@ -183,7 +174,7 @@ struct Pass {
 // Nodes 1 to made-1, each looked at once.
 fn nodes_ok(s: &[u8]) -> Pass
     requires { ⌜ Headed (now s) ⌝ }
-    ensures { λ r. ⌜ Says (r .ok) (NodesOk (fieldsOf (now (s .entry)))) ⌝ }
+    ensures { λ r. ⌜ Says (r .ok) (InnersOk (fieldsOf (now (s .entry)))) ⌝ }
     ensures { λ r. ⌜ (r .ok ≡ true → Counted (modeF (fieldsOf (now (s .entry)))) (made (now (s .entry))) (r .ins)) ⌝ }
 {
     let v = vars_of(s);

@@ -17,6 +17,7 @@ ghost use Rattle.store.specs.Promises.{entering, roomRow, Switches, Open
 use layout::Store;
 
 mod check;
+mod kinds;
 mod made;
 mod moves;
 mod number;
@@ -136,7 +137,7 @@ fn bind_at(s: &mut [u8], x: usize, v: i32) -> Answer
 {
     let n = made::next_of(s);
     let c = records::bare_of(records::cell(s, x));
-    made::grow(s, 3, x, 0, c);
+    made::grow(s, n, 3, x, 0, c);
     records::set_cell(s, x, layout::value_cell(v));
     Answer::Made(New {
         node: n as u16,
@@ -190,7 +191,7 @@ fn wind_at(s: &mut [u8], t: &mut [u8], p: usize, q: usize) -> Answer
 {
     let n = made::next_of(s);
     trace::note(t, 0, 1, p, records::focus_of(s));
-    made::grow(s, 5, p, q, [0; Store::BARE]);
+    made::grow(s, n, 5, p, q, [0; Store::BARE]);
     Answer::Made(New {
         node: n as u16,
         events: 1,

@@ -38,11 +38,10 @@ pub(crate) fn is_full(s: &[u8]) -> bool
 }
 
 // The next node: its kind, variable or prelude, zero or postlude, and stored cell; a child of the focus, and the new focus.
-pub(crate) fn grow(s: &mut [u8], k: u8, a: usize, b: usize, c: [u8; Store::BARE])
-    requires { ⌜ Sound (now s) × ((IsFull (now s) → ⊥) × ((a < 65536) × (b < 65536))) ⌝ }
+pub(crate) fn grow(s: &mut [u8], n: usize, k: u8, a: usize, b: usize, c: [u8; Store::BARE])
+    requires { ⌜ Sound (now s) × ((IsFull (now s) → ⊥) × ((n ≡ nextOf (now s)) × ((a < 65536) × (b < 65536)))) ⌝ }
     ensures { λ _. ⌜ now (s .exit) ≡ growB (now (s .entry)) (nodeB k (focus (now (s .entry))) a b c) ⌝ }
 {
-    let n = made_of(s);
     let f = focus_of(s);
     set_node(s, n, k, f, a, b, c);
     set_made(s, n + 1);

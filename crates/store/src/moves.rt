@@ -4,13 +4,13 @@ ghost use mathlib.Core.Bool.{Bool, true, false};
 ghost use Prim.Native.Nat.{ℕ, _+_, _<_, _≤_};
 ghost use Rattle.rules.specs.Store.{goto};
 ghost use Rattle.layout.specs.Records.{vars, room, made, focus, nodeOf, varN};
-ghost use Rattle.layout.specs.Kinds.{isOut};
 ghost use Rattle.layout.specs.Fields.{Fit};
 ghost use Rattle.layout.specs.View.{view};
 ghost use Rattle.layout.specs.Sound.{Sound};
 ghost use Rattle.layout.specs.Writes.{Turns, swapB, turnB, leaveB, enterB};
 ghost use Rattle.layout.specs.Made.{IsMade};
 ghost use Rattle.layout.specs.Becomes.{Becomes};
+use crate::kinds::is_out;
 use crate::records::bare_of;
 use crate::records::cell;
 use crate::records::focus_of;
@@ -66,16 +66,6 @@ fn enter(s: &mut [u8], n: usize)
     let k = kind_of(s, n);
     turn(s, n, k + 1);
     set_focus(s, n);
-}
-
-// Out, of a binding or a wind: the top counts as in.
-pub(crate) fn is_out(k: u8) -> bool
-    ensures { λ r. ⌜ r ≡ isOut k ⌝ }
-{
-    match k {
-        2 | 4 => true,
-        _ => false,
-    }
 }
 
 // To a: a target that is out is entered after the focus has been brought to its parent; for a target that is in, the focus is

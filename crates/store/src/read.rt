@@ -8,7 +8,7 @@ ghost use Rattle.layout.specs.View.{asCell, view};
 ghost use Rattle.layout.specs.Sound.{Sound};
 ghost use Rattle.layout.specs.Made.{IsMade};
 ghost use Rattle.layout.specs.Reading.{binderOf, Ahead, lastBelow, FoundAt};
-use crate::moves::is_out;
+use crate::kinds::is_out;
 use crate::records::bare_of;
 use crate::records::cell;
 use crate::records::focus_of;

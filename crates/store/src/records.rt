@@ -2,57 +2,72 @@
 // some of them too, where they look at or write a record whole; trace.rt knows an event's.
 ghost use mathlib.Core.Path.{_≡_};
 ghost use mathlib.Core.List.{List, [], _∷_};
-ghost use Prim.Native.Nat.{ℕ, _+_, _<_, _≤_};
+ghost use Prim.Native.Nat.{ℕ, _+_, _*_, _<_, _≤_};
 ghost use lib.ListN.{length, getD};
 ghost use Rattle.layout.specs.Limits.{header, cellSize, bareSize, nodeSize, cellAt, nodeAt};
-ghost use Rattle.layout.specs.Records.{vars, room, made, focus, withFocus, withMade, cellOf, withCell, bareC, putC, nodeOf, withNode, kindN, parentN, varN, postN, storedN, turnN, swapN, nodeB};
+ghost use Rattle.layout.specs.Records.{headN, withHead, vars, room, made, focus, withFocus, withMade, cellOf, withCell, bareC, putC, nodeOf, withNode, kindN, parentN, varN, postN, storedN, turnN, swapN, nodeB};
 ghost use Rattle.layout.specs.Fields.{Fit};
 use crate::number::put16_at;
 use crate::number::u16_at;
 use layout::Store;
 
-// ---- the header
+// ---- the header: V, N, made, focus
+
+// Its number k.
+fn head_of(s: &[u8], k: usize) -> usize
+    requires { ⌜ (header ≤ length (now s)) × (2 * k + 2 ≤ header) ⌝ }
+    ensures { λ r. ⌜ (r ≡ headN (now (s .entry)) k) × (r < 65536) ⌝ }
+{
+    u16_at(&s[0..Store::HEADER], 2 * k)
+}
+
+fn set_head(s: &mut [u8], k: usize, v: usize)
+    requires { ⌜ (header ≤ length (now s)) × ((2 * k + 2 ≤ header) × (v < 65536)) ⌝ }
+    ensures { λ _. ⌜ now (s .exit) ≡ withHead (now (s .entry)) k v ⌝ }
+{
+    put16_at(&mut s[0..Store::HEADER], 2 * k, v);
+}
 
 pub(crate) fn vars_of(s: &[u8]) -> usize
     requires { ⌜ header ≤ length (now s) ⌝ }
     ensures { λ r. ⌜ (r ≡ vars (now (s .entry))) × (r < 65536) ⌝ }
 {
-    u16_at(&s[0..Store::HEADER], 0)
+    head_of(s, 0)
 }
 
 pub(crate) fn room_of(s: &[u8]) -> usize
     requires { ⌜ header ≤ length (now s) ⌝ }
     ensures { λ r. ⌜ (r ≡ room (now (s .entry))) × (r < 65536) ⌝ }
 {
-    u16_at(&s[0..Store::HEADER], 2)
+    head_of(s, 1)
 }
 
 pub(crate) fn made_of(s: &[u8]) -> usize
     requires { ⌜ header ≤ length (now s) ⌝ }
     ensures { λ r. ⌜ (r ≡ made (now (s .entry))) × (r < 65536) ⌝ }
 {
-    u16_at(&s[0..Store::HEADER], 4)
+    head_of(s, 2)
 }
 
 pub(crate) fn focus_of(s: &[u8]) -> usize
     requires { ⌜ header ≤ length (now s) ⌝ }
     ensures { λ r. ⌜ (r ≡ focus (now (s .entry))) × (r < 65536) ⌝ }
 {
-    u16_at(&s[0..Store::HEADER], 6)
+    head_of(s, 3)
 }
 
 pub(crate) fn set_made(s: &mut [u8], m: usize)
     requires { ⌜ (header ≤ length (now s)) × (m < 65536) ⌝ }
     ensures { λ _. ⌜ now (s .exit) ≡ withMade (now (s .entry)) m ⌝ }
 {
-    put16_at(&mut s[0..Store::HEADER], 4, m);
+    set_head(s, 2, m);
 }
 
 pub(crate) fn set_focus(s: &mut [u8], f: usize)
     requires { ⌜ (header ≤ length (now s)) × (f < 65536) ⌝ }
     ensures { λ _. ⌜ now (s .exit) ≡ withFocus (now (s .entry)) f ⌝ }
 {
-    put16_at(&mut s[0..Store::HEADER], 6, f);
+    set_head(s, 3, f);
 }
 
 // ---- a cell

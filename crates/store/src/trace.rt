@@ -12,7 +12,8 @@ ghost use Rattle.layout.specs.Sound.{Sound};
 ghost use Rattle.layout.specs.Events.{eventD, told, eventsTo};
 ghost use Rattle.layout.specs.Made.{IsMade};
 ghost use Rattle.layout.specs.Routes.{movesTo, leftEvents, enteredEvents, meeting, OnWay, Climbing, toldAt, Entering};
-use crate::moves::is_out;
+use crate::kinds::is_out;
+use crate::kinds::is_wind;
 use crate::number::put16_at;
 use crate::records::focus_of;
 use crate::records::kind_of;
@@ -35,11 +36,10 @@ fn wind_bit(s: &[u8], n: usize) -> usize
     requires { ⌜ Fit (now s) × (n < room (now s)) ⌝ }
     ensures { λ r. ⌜ (r ≡ isWind (whatN (nodeOf (now (s .entry)) n))) × (r ≤ 1) ⌝ }
 {
-    let k = kind_of(s, n);
-    match k {
-        4..=5 => 1,
-        _ => 0,
+    if is_wind(kind_of(s, n)) {
+        return 1;
     }
+    0
 }
 
 // From the target up, while nodes are out: these are to be entered. It ends at the meeting point.
@@ -115,14 +115,11 @@ fn tell_left(s: &[u8], t: &mut [u8], n: usize, e: usize) -> usize
     requires { ⌜ eventSize * (e + length (leftEvents (now s) n)) ≤ length (now t) ⌝ }
     ensures { λ r. ⌜ (r ≡ e + length (leftEvents (now (s .entry)) n)) × (now (t .exit) ≡ toldAt e (leftEvents (now (s .entry)) n) (now (t .entry))) ⌝ }
 {
-    let k = kind_of(s, n);
-    match k {
-        4..=5 => {
-            note(t, e, 0, post_of(s, n), parent_of(s, n));
-            e + 1
-        }
-        _ => e,
+    if is_wind(kind_of(s, n)) {
+        note(t, e, 0, post_of(s, n), parent_of(s, n));
+        return e + 1;
     }
+    e
 }
 
 // Entering n, told as the event before e if n is a wind: its number, else e. The place is the wind's parent.
@@ -131,14 +128,11 @@ fn tell_entered(s: &[u8], t: &mut [u8], n: usize, e: usize) -> usize
     requires { ⌜ (length (enteredEvents (now s) n) ≤ e) × (eventSize * e ≤ length (now t)) ⌝ }
     ensures { λ r. ⌜ (r + length (enteredEvents (now (s .entry)) n) ≡ e) × (now (t .exit) ≡ toldAt r (enteredEvents (now (s .entry)) n) (now (t .entry))) ⌝ }
 {
-    let k = kind_of(s, n);
-    match k {
-        4..=5 => {
-            note(t, e - 1, 1, var_of(s, n), parent_of(s, n));
-            e - 1
-        }
-        _ => e,
+    if is_wind(kind_of(s, n)) {
+        note(t, e - 1, 1, var_of(s, n), parent_of(s, n));
+        return e - 1;
     }
+    e
 }
 
 // The leaving events, forward from the focus to the meeting point.

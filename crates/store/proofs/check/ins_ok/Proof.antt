@@ -11,7 +11,7 @@ use Rattle.layout.specs.Sound.{Says, Headed, Ins}
 use Rattle.layout.specs.Kinds.{isIn}
 use Rattle.layout.specs.Records.{kindN, parentN}
 use Rattle.layout.specs.Fields.{fieldsOf, nodes}
-use Rattle.layout.specs.SoundLaws.{headed-fit}
+use Rattle.layout.specs.SoundLaws.{headed-fit, shape-inners}
 use Rattle.layout.specs.Laws.{node-in, OfBuffer, of-buffer}
 use Rattle.layout.specs.CheckLaws.{Climbed, climb-start, climb-out, climb-on, climb-end}
 use Rattle.store.proofs.check.ins_ok.Statement.{statement}
@@ -73,7 +73,7 @@ unfolding fieldsOf
 loop-less c =
     let loop = c .before .before .before .before .before in
     let start = loop .before .before .before in
-    omega (arith, up c, start .pre .1 .0 .nodes (loop .loop .f) (omega arith) (omega arith) .parent)
+    omega (arith, up c, shape-inners _ (start .pre .1 .0) (loop .loop .f) (omega arith) (omega arith) .parent)
 
 loop-again : tie.Need-loop-again Inv-loop μ-loop
 unfolding fieldsOf

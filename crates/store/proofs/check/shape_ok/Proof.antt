@@ -3,10 +3,10 @@ use mathlib.Core.Path.{_≡_, refl, sym, _∙_}
 use native.Mathlib.Omega.{arith}
 use borrow.Author.Needs.{needs}
 use Rattle.rules.specs.Basic.{clash}
-use Rattle.layout.specs.Sound.{Shape, NodesOk}
+use Rattle.layout.specs.Sound.{Shape}
 use Rattle.layout.specs.Records.{topNode}
 use Rattle.layout.specs.Fields.{fieldsOf}
-use Rattle.layout.specs.SoundLaws.{headed-fit}
+use Rattle.layout.specs.SoundLaws.{InnersOk, shape-inners, shape-blanks, shape-by-numbers, headed-fit}
 use Rattle.layout.specs.Laws.{node-in}
 use Rattle.layout.specs.CheckLaws.{held, refuted, says-map, counted-all}
 use Rattle.store.proofs.check.shape_ok.Statement.{statement}
@@ -35,7 +35,7 @@ blanks-ok-requires : tie.Need-blanks-ok-requires
 blanks-ok-requires c κs = search needs
 
 returns-3 : tie.Need-returns-3
-returns-3 c = (λ ok. refuted (c .before .blanks-ok .result) (c .if3 .taken) (c .before .blanks-ok .ensures) (ok .blanks), λ e. clash e refl)
+returns-3 c = (λ ok. refuted (c .before .blanks-ok .result) (c .if3 .taken) (c .before .blanks-ok .ensures) (shape-blanks _ ok), λ e. clash e refl)
 
 nodes-ok-requires : tie.Need-nodes-ok-requires
 nodes-ok-requires c κs = search needs
@@ -49,15 +49,9 @@ returns-4 c =
     let start = cells .before .before in
     let s = start .args .s .now in
     let is-top : fieldsOf s .node 0 ≡ topNode = node-in s 0 (omega arith) ∙ sym (top .before .node .ensures .0) ∙ held (top .top-ok .result) (blanks .before .if2 .left) (top .top-ok .ensures) in
-    let all : NodesOk (fieldsOf s) → Shape (fieldsOf s) = λ n. record {
-      head = start .pre .head;
-      cells = held (cells .cells-ok .result) (top .before .before .if1 .left) (cells .cells-ok .ensures);
-      top = is-top;
-      nodes = n;
-      blanks = held (blanks .blanks-ok .result) (c .before .if3 .left) (blanks .blanks-ok .ensures);
-    } in
-    let last : Shape (fieldsOf s) → NodesOk (fieldsOf s) = λ ok. ok .nodes in
-    (says-map (c .nodes-ok .result .ok) all last (c .nodes-ok .ensures .0), λ e. counted-all (fieldsOf s) _ _ is-top (c .nodes-ok .ensures .1 e))
+    let all : InnersOk (fieldsOf s) → Shape (fieldsOf s) = λ n. shape-by-numbers (fieldsOf s) (start .pre .head) (held (cells .cells-ok .result) (top .before .before .if1 .left) (cells .cells-ok .ensures)) is-top n
+    (held (blanks .blanks-ok .result) (c .before .if3 .left) (blanks .blanks-ok .ensures)) in
+    (says-map (c .nodes-ok .result .ok) all (shape-inners (fieldsOf s)) (c .nodes-ok .ensures .0), λ e. counted-all (fieldsOf s) _ _ is-top (c .nodes-ok .ensures .1 e))
 
 pub shape-ok-spec : {M : Type 1} → statement M
 shape-ok-spec =

@@ -16,7 +16,7 @@ use Rattle.store.proofs.moves.walk.Reads as walk
 use Rattle.store.proofs.moves.walk.Kinds as walk-kinds
 use Rattle.store.proofs.moves.+walk.Lts-walk as lts
 use Rattle.store.proofs.moves.enter.Reads as enter
-use Rattle.store.proofs.moves.is_out.Reads as is-out
+use Rattle.store.proofs.kinds.is_out.Reads as is-out
 use Rattle.store.proofs.moves.leave.Reads as leave
 use Rattle.store.proofs.records.focus_of.Reads as focus-of
 use Rattle.store.proofs.records.kind_of.Reads as kind-of

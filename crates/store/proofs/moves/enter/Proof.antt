@@ -5,6 +5,7 @@ use Prim.Native.Nat.{ℕ, _+_}
 use native.Mathlib.Omega.{arith}
 use borrow.Author.Needs.{needs}
 use Rattle.layout.specs.Records.{withFocus}
+use Rattle.layout.specs.Kinds.{node-high}
 use Rattle.layout.specs.Writes.{turnB, moveB}
 use Rattle.store.proofs.moves.enter.Statement.{statement}
 use Rattle.store.proofs.moves.enter.Tie as tie
@@ -13,7 +14,7 @@ kind-of-requires : tie.Need-kind-of-requires
 kind-of-requires c κs = search needs
 
 add-turn : tie.Need-add-turn
-add-turn c = omega arith
+add-turn c = omega (arith, node-high _ (c .before .before .before .before .pre .node))
 
 turn-requires : tie.Need-turn-requires
 turn-requires c κs = search needs

@@ -4,7 +4,7 @@ use Prim.Native.Nat.{ℕ}
 use native.Mathlib.Omega.{arith}
 use borrow.Author.Needs.{needs}
 use Rattle.layout.specs.Records.{focus, withFocus, nodeOf, kindN, parentN}
-use Rattle.layout.specs.Kinds.{leftKind}
+use Rattle.layout.specs.Kinds.{leftKind, node-low}
 use Rattle.layout.specs.Writes.{turnB, moveB}
 use Rattle.layout.specs.WalkLaws.{Turned, turned}
 use Rattle.store.proofs.moves.leave.Statement.{statement}
@@ -26,7 +26,7 @@ sub-turn : tie.Need-sub-turn
 sub-turn c =
     let first = c .before .before .before in
     let s = first .before .before .before .args .s .now in
-    let e : c .before .kind-of .result ≡ kindN (nodeOf s (focus s)) = c .before .kind-of .ensures ∙ ap (λ (n : ℕ). kindN (nodeOf s n)) (first .focus-of .ensures .0) in omega arith
+    let e : c .before .kind-of .result ≡ kindN (nodeOf s (focus s)) = c .before .kind-of .ensures ∙ ap (λ (n : ℕ). kindN (nodeOf s n)) (first .focus-of .ensures .0) in omega (arith, node-low _ (first .before .before .before .pre .node))
 
 turn-requires : tie.Need-turn-requires
 turn-requires c κs =

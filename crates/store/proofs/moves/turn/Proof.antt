@@ -2,7 +2,7 @@
 use mathlib.Core.Path.{sym, _∙_}
 use native.Mathlib.Omega.{arith}
 use borrow.Author.Needs.{needs}
-use Rattle.layout.specs.Kinds.{kind-binding, kind-wind}
+use Rattle.layout.specs.Kinds.{kind-binding, kind-wind, node-low, node-high}
 use Rattle.layout.specs.Writes.{turnB}
 use Rattle.store.proofs.moves.turn.Statement.{statement}
 use Rattle.store.proofs.moves.turn.Tie as tie
@@ -20,27 +20,27 @@ same-length : tie.Need-same-length
 same-length c = search needs
 
 returns : tie.Need-returns
-returns c = absurd (omega arith)
+returns c = absurd (omega (arith, node-low _ (c .before .before .before .before .pre .node)))
 
 same-length-2 : tie.Need-same-length-2
 same-length-2 c = search needs
 
 returns-2 : tie.Need-returns-2
 unfolding turnB
-returns-2 c = c .before .before .exchange .ensures ∙ sym (kind-binding _ _ _ _ _ (omega arith) (omega arith))
+returns-2 c = c .before .before .exchange .ensures ∙ sym (kind-binding _ _ _ _ _ (omega arith))
 
 same-length-3 : tie.Need-same-length-3
 same-length-3 c = search needs
 
 returns-3 : tie.Need-returns-3
 unfolding turnB
-returns-3 c = c .before .before .turn-at .ensures ∙ sym (kind-wind _ _ _ _ _ (omega arith) (omega arith))
+returns-3 c = c .before .before .turn-at .ensures ∙ sym (kind-wind _ _ _ _ _ (omega arith))
 
 same-length-4 : tie.Need-same-length-4
 same-length-4 c = search needs
 
 returns-4 : tie.Need-returns-4
-returns-4 c = absurd (omega arith)
+returns-4 c = absurd (omega (arith, node-high _ (c .before .before .before .before .before .before .pre .node)))
 
 pub turn-spec : {M : Type 1} → statement M
 turn-spec =

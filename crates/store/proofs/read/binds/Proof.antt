@@ -17,7 +17,7 @@ returns c =
     let start = c .before .before .before .before .before in
     let kind = c .before .before .before .kind-of .ensures in
     ap (λ v. eqb v (start .args .x)) (c .var-of .ensures .0)
-    ∙ sym (binds-yes _ (start .pre .0) (start .args .n) (start .args .x) (start .pre .1) (omega arith) (omega arith))
+    ∙ sym (binds-yes _ (start .pre .0) (start .args .n) (start .args .x) (start .pre .1) (omega arith))
 
 returns-2 : tie.Need-returns-2
 returns-2 c =

@@ -1,22 +1,37 @@
 -- `tell_entered` meets its contract: a wind has one event, any other node none.
+use mathlib.Core.Path.{_≡_}
 use mathlib.Core.List.{[]}
 use native.Mathlib.Omega.{arith}
 use borrow.Author.Needs.{needs}
+use lib.ListN.{length}
+use Rattle.layout.specs.Routes.{enteredEvents}
+use Rattle.layout.specs.Records.{nodeOf, kindN}
+use Rattle.layout.specs.Kinds.{IsWind}
 use Rattle.layout.specs.SoundLaws.{sound-fit}
 use Rattle.layout.specs.WalkLaws.{made-room}
 use Rattle.layout.specs.TellLaws.{entered-one, entered-told, entered-kept}
+use Rattle.layout.specs.CheckLaws.{says-yes, says-no}
 use Rattle.store.proofs.trace.tell_entered.Statement.{statement}
 use Rattle.store.proofs.trace.tell_entered.Tie as tie
+
+abbrev start : tie.After-is-wind → tie.Start
+start c = c .before .before .before .before
+
+-- past the test n is a wind, and has its one event
+wind : (c : tie.Then1) → IsWind (kindN (nodeOf (start (c .before) .args .s .now) (start (c .before) .args .n)))
+wind c = let test = c .before in rw (test .before .kind-of .ensures) at (says-yes (test .is-wind .result) (c .if1 .taken) (test .is-wind .ensures))
+
+one : (c : tie.Then1) → length (enteredEvents (start (c .before) .args .s .now) (start (c .before) .args .n)) ≡ 1
+one c = let (ok, made) = start (c .before) .pre .0 in entered-one _ ok _ made (wind c) [] []
 
 kind-of-requires : tie.Need-kind-of-requires
 kind-of-requires c κs = let (ok, made) = c .before .before .pre .0 in (sound-fit _ ok, made-room _ ok _ made)
 
+is-wind-requires : tie.Need-is-wind-requires
+is-wind-requires c κs = search needs
+
 sub-note : tie.Need-sub-note
-sub-note c =
-    let st = c .before .before .before .before .before .before in
-    let (ok, made) = st .pre .0 in
-    let one = entered-one _ ok (st .args .n) made (omega arith) (omega arith) [] [] in
-    omega (arith, st .pre .1)
+sub-note c = omega (arith, one (c .before), c .before .before .before .before .before .before .pre .1)
 
 var-of-requires : tie.Need-var-of-requires
 var-of-requires c κs = let (ok, made) = c .before .before .before .before .before .before .pre .0 in (sound-fit _ ok, made-room _ ok _ made)
@@ -25,18 +40,10 @@ parent-of-requires : tie.Need-parent-of-requires
 parent-of-requires c κs = let (ok, made) = c .before .before .before .before .before .before .before .pre .0 in (sound-fit _ ok, made-room _ ok _ made)
 
 note-requires : tie.Need-note-requires
-note-requires c κs =
-    let st = c .before .before .before .before .before .before .before .before in
-    let (ok, made) = st .pre .0 in
-    let one = entered-one _ ok (st .args .n) made (omega arith) (omega arith) [] [] in
-    omega (arith, st .pre .1)
+note-requires c κs = omega (arith, one (c .before .before .before), c .before .before .before .before .before .before .before .before .pre .1)
 
 sub-result : tie.Need-sub-result
-sub-result c =
-    let st = c .before .before .before .before .before .before .before .before .before .before .before in
-    let (ok, made) = st .pre .0 in
-    let one = entered-one _ ok (st .args .n) made (omega arith) (omega arith) [] [] in
-    omega (arith, st .pre .1)
+sub-result c = omega (arith, one (c .before .before .before .before .before .before), c .before .before .before .before .before .before .before .before .before .before .before .pre .1)
 
 same-length : tie.Need-same-length
 same-length c = search needs
@@ -44,30 +51,24 @@ same-length c = search needs
 returns : tie.Need-returns
 returns c =
     let done = c .before .before in
-    let st = done .before .before .before .before .before .before .before .before .before in
+    let at = done .before .before .before .before in
+    let st = start (at .before) in
     let (ok, made) = st .pre .0 in
-    let one = entered-one _ ok (st .args .n) made (omega arith) (omega arith) [] [] in
-    (omega (arith, st .pre .1), entered-told _ ok _ made (omega arith) (omega arith) _ _ _ _ _ (done .before .before .var-of .ensures .0) (done .before .parent-of .ensures .0) (done .note .ensures))
+    (omega (arith, one at, st .pre .1), entered-told _ ok _ made (wind at) _ _ _ _ _ (done .before .before .var-of .ensures .0) (done .before .parent-of .ensures .0) (done .note .ensures))
 
 returns-2 : tie.Need-returns-2
 returns-2 c =
-    let st = c .before .before .before .before in
+    let test = c .before in
+    let st = start test in
     let (ok, made) = st .pre .0 in
-    let (same, bytes) = entered-kept _ ok _ made (λ l h. omega arith) (st .args .e) (st .args .t .now) in
-    (same, bytes)
-
-returns-3 : tie.Need-returns-3
-returns-3 c =
-    let st = c .before .before .before .before .before in
-    let (ok, made) = st .pre .0 in
-    let (same, bytes) = entered-kept _ ok _ made (λ l h. omega arith) (st .args .e) (st .args .t .now) in
-    (same, bytes)
+    entered-kept _ ok _ made (rw (test .before .kind-of .ensures) at (says-no (test .is-wind .result) (c .if1 .left) (test .is-wind .ensures))) (st .args .e) (st .args .t .now)
 
 pub tell-entered-spec : {M : Type 1} → statement M
 tell-entered-spec =
     tie.close
     (tie.spec
     kind-of-requires
+    is-wind-requires
     sub-note
     var-of-requires
     parent-of-requires
@@ -75,5 +76,4 @@ tell-entered-spec =
     sub-result
     same-length
     returns
-    returns-2
-    returns-3)
+    returns-2)

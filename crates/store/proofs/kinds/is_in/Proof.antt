@@ -2,8 +2,8 @@ use mathlib.Core.Logic.{inl, inr, ⊎-elim}
 use mathlib.Core.Path.{ap, sym}
 use borrow.Author.Tests.{ne-eqb}
 use Rattle.layout.specs.Kinds.{isIn}
-use Rattle.store.proofs.check.is_in.Statement.{statement}
-use Rattle.store.proofs.check.is_in.Tie as tie
+use Rattle.store.proofs.kinds.is_in.Statement.{statement}
+use Rattle.store.proofs.kinds.is_in.Tie as tie
 
 returns : tie.Need-returns
 unfolding isIn

@@ -2,8 +2,8 @@
 use mathlib.Core.Logic.{⊎-elim, inl, inr}
 use borrow.Author.Tests.{ne-eqb}
 use Rattle.layout.specs.Kinds.{isOut}
-use Rattle.store.proofs.moves.is_out.Statement.{statement}
-use Rattle.store.proofs.moves.is_out.Tie as tie
+use Rattle.store.proofs.kinds.is_out.Statement.{statement}
+use Rattle.store.proofs.kinds.is_out.Tie as tie
 
 returns : tie.Need-returns
 unfolding isOut
