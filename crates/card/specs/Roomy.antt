@@ -20,10 +20,10 @@ use Rattle.store.specs.declared.Answer.{Answer}
 use Rattle.store.specs.Answers.{Numbers, numbers}
 use Rattle.text.specs.declared.line.Op.{Op}
 use Rattle.print.specs.declared.Report.{Report}
-use Rattle.store.specs.Tables.{Applies, Lowest}
+use Rattle.store.specs.Tables.{Applies}
 use Rattle.store.specs.Promises.{damagedRow, roomRow, roomFor, entering, SwitchDone, parentAt}
 use Rattle.card.specs.Running.{callOf, shown, Ran, reportOf, shows, keeps-number, plainly}
-use Rattle.demands.specs.Calls.{Promised, Called, called, Done, Code, is-done, is-refused, code-of, done-sound, table}
+use Rattle.demands.specs.Calls.{Promised, Called, called, Done, Code, is-done, is-refused, code-of, called-lowest, done-sound, table}
 
 -- so many events, where the row of the room does not apply
 within : (t : List ℕ) (es : List Event) → (roomFor t < length es → ⊥) → length es * eventSize ≤ length t
@@ -57,7 +57,7 @@ module _ (s t s′ t′ : List ℕ) (n : Numbers) where
     where
       go : Called c s t s′ t′ n → Code n → n .events * eventSize ≤ length t
       go q (is-refused h) = rw (q .refused h .0) (omega arith)
-      go q (is-done e) = done-roomy c (done-sound (q .lowest) e) (q .done e) (λ k a. omega (arith, e, q .lowest .least k (inr a)))
+      go q (is-done e) = done-roomy c (done-sound q e) (q .done e) (λ k a. omega (arith, e, called-lowest c s t s′ t′ n q .least k (inr a)))
 
 -- the report of the call's answer
 pub ran : (k : ℕ) (o : Op) (s t s′ t′ : List ℕ) (a : Answer) (r : Report) → r ≡ reportOf k a → Promised (callOf o) s t s′ t′ (numbers a)

@@ -14,7 +14,7 @@ use Rattle.rules.specs.Store.{Deep, home}
 use Rattle.rules.specs.Far.{far}
 use Rattle.rules.specs.Moves.{moves-tree, Event}
 use Rattle.rules.specs.Refusals as refusals
-use Rattle.rules.specs.Refusals.{lowest}
+use Rattle.rules.specs.Refusals.{damaged, first}
 use Rattle.rules.specs.Act.{Call, Size, shown, backTo, rows, eventsOf, codeOf, outOf, movesOf, byOf, answerOf, changed, Outcome, outcome, act, refused, valueIn}
 use Rattle.rules.specs.Effects.{SameDeep, Effect, act-effect, effect-determined}
 use Rattle.rules.specs.Demands.{switched-count, switched-events}
@@ -30,8 +30,8 @@ use Rattle.layout.specs.Events.{eventsTo}
 use Rattle.store.specs.Answers.{Numbers, seen}
 use Rattle.store.specs.Tables as tables
 use Rattle.store.specs.Promises.{meaning, at, byAt, roomFor, Shows, parentAt, SwitchDone}
-use Rattle.demands.specs.Calls.{table, Done, Called, Code, is-done, is-refused, code-of, sound-lowest, done-leaves}
-use Rattle.demands.specs.Tests.{sizeAt, refusedAs, lowest-says, next-made, seen-numbered, table-says}
+use Rattle.demands.specs.Calls.{table, Done, Called, Code, is-done, is-refused, code-of, table-rises, sound-first, done-leaves}
+use Rattle.demands.specs.Tests.{sizeAt, refusedAs, first-says, next-made, seen-numbered, table-says}
 use Rattle.demands.specs.Plain.{deep-one, plain-meaning, plain-changed, ranks-changed}
 
 -- what `act` does to the meaning of s, with room for as many events as t has
@@ -76,11 +76,11 @@ abbrev unrefused : Call → List ℕ → Outcome Deep
 unrefused c s = record { answer = answerOf (sizeAt s) c (shown (meaning s)); events = eventsOf c (shown (meaning s)); after = changed (sizeAt s) c (meaning s) }
 
 module _ (c : Call) (s t : List ℕ) where
-  acted-refused : (k : ℕ) → lowest (rows (sizeAt s) (roomFor t) c (shown (meaning s))) ≡ some k → acted c s t ≡ refusedBy k s
+  acted-refused : (k : ℕ) → first (rows (sizeAt s) (roomFor t) c (shown (meaning s))) ≡ some k → acted c s t ≡ refusedBy k s
   unfolding acted act outcome
   acted-refused k e = rw e
 
-  acted-done : lowest (rows (sizeAt s) (roomFor t) c (shown (meaning s))) ≡ none → acted c s t ≡ unrefused c s
+  acted-done : first (rows (sizeAt s) (roomFor t) c (shown (meaning s))) ≡ none → acted c s t ≡ unrefused c s
   unfolding acted act outcome
   acted-done e = rw e
 
@@ -128,7 +128,7 @@ module _ (s t s′ t′ : List ℕ) (n : Numbers) (ok : Sound s) where
   done-trace (Call.peek a x) (d, e, f) = f ∙ sym (told-none t)
 
   -- the meaning
-  done-meaning : (c : Call) → lowest (rows (sizeAt s) (roomFor t) c (shown (meaning s))) ≡ none → Done c s t s′ t′ n → meaning s′ ≡ changed (sizeAt s) c (meaning s)
+  done-meaning : (c : Call) → first (rows (sizeAt s) (roomFor t) c (shown (meaning s))) ≡ none → Done c s t s′ t′ n → meaning s′ ≡ changed (sizeAt s) c (meaning s)
   unfolding meaning home acted
   done-meaning c none-applies d =
       let z : Size = sizeAt s in
@@ -145,8 +145,8 @@ pub as-act : (c : Call) (s t s′ t′ : List ℕ) (n : Numbers) → Sound s →
 unfolding numbersOf
 as-act c s t s′ t′ n ok p = go (code-of n)
   where
-    low : lowest (rows (sizeAt s) (roomFor t) c (shown (meaning s))) ≡ refusedAs (n .code)
-    low = lowest-says (table c s t) (rows (sizeAt s) (roomFor t) c (shown (meaning s))) (table-says s ok t c) (n .code) (sound-lowest ok (p .lowest))
+    low : first (rows (sizeAt s) (roomFor t) c (shown (meaning s))) ≡ refusedAs (n .code)
+    low = first-says damaged (table c s t) (rows (sizeAt s) (roomFor t) c (shown (meaning s))) (table-rises c s t) (table-says s ok t c) (n .code) (sound-first p ok)
 
     is-some : (k : ℕ) → 1 ≤ k → refusedAs k ≡ some k
     is-some zero h = absurd (omega arith)

@@ -1,20 +1,20 @@
 -- The calls on a store under one name, so that what holds of all of them is said once: each call's promise, its table, and
 -- what it says of a call that is done. Open stands alone. From document 01, "What each call does". Assumes nothing.
 use mathlib.Core.Path.{_≡_, refl, sym, ap, _∙_}
-use mathlib.Core.Logic.{_⊎_, inl, inr}
+use mathlib.Core.Logic.{inl, inr}
 use Prim.Native.Nat.{ℕ, zero, suc, _≤_}
 use native.Mathlib.Omega.{arith}
 use mathlib.Core.List.{List, [], _∷_}
 use lib.IntN.{pos}
 use Rattle.rules.specs.Act.{Call}
-use Rattle.rules.specs.Refusals.{setup}
+use Rattle.rules.specs.Refusals.{setup, damaged}
 use Rattle.layout.specs.Records.{focus}
 use Rattle.layout.specs.Sound.{Sound}
 use Rattle.layout.specs.Becomes.{Kept}
 use Rattle.layout.specs.WalkLaws.{kept-self}
 use Rattle.layout.specs.Events.{eventsTo}
 use Rattle.store.specs.Answers.{Numbers, refusal}
-use Rattle.store.specs.Tables.{Row, Applies, Lowest, row}
+use Rattle.store.specs.Tables.{Row, row, First, RisingFrom, Lowest, first-lowest}
 use Rattle.store.specs.Promises.{Answers, damagedRow, variableRow, environmentRow, valueRow, fullRow, roomRow, topRow, Told, Shows, LookPromise, PeekPromise, HerePromise, SetDone, SetPromise, BindDone, BindPromise, entering, WindDone, WindPromise, SwitchDone, parentAt, GotoPromise, BackPromise, Openable, Opened, OpenPromise}
 use Rattle.demands.specs.Stable.{sound-stable}
 
@@ -55,7 +55,7 @@ abbrev pub Called : Call → List ℕ → List ℕ → List ℕ → List ℕ →
 Called c s t s′ t′ n = Answers (damagedRow s ∷ table c s t) n ((s′ ≡ s) × (t′ ≡ t)) (Done c s t s′ t′ n)
 
 answers-map : {rows : List Row} {n : Numbers} {A B C D : Type 0} → (A → C) → (B → D) → Answers rows n A B → Answers rows n C D
-answers-map f g a = record { lowest = a .lowest; refused = λ h. (a .refused h .0, f (a .refused h .1)); done = λ h. g (a .done h) }
+answers-map f g a = record { first = a .first; refused = λ h. (a .refused h .0, f (a .refused h .1)); done = λ h. g (a .done h) }
 
 pub called : (c : Call) (s t s′ t′ : List ℕ) (n : Numbers) → Promised c s t s′ t′ n → Called c s t s′ t′ n
 called (Call.bind x v) s t s′ t′ n (p, e) = answers-map (λ q. (q, e)) (λ d. (d, e)) (p .answers)
@@ -79,18 +79,36 @@ code-of n = go (n .code) refl
     go zero e = is-done e
     go (suc k) e = is-refused (omega arith)
 
--- where the call is done the store was sound
-pub done-sound : {s : List ℕ} {rows : List Row} {c : ℕ} → Lowest (damagedRow s ∷ rows) c → c ≡ 0 → Sound s
-done-sound {s} h e = sound-stable s (λ k. omega (arith, h .least 2 (inl (refl, k))))
+-- ---- the table: its numbers rise from Damaged on, so the number given is the lowest that applies
+pub table-rises : (c : Call) (s t : List ℕ) → RisingFrom damaged (table c s t)
+table-rises (Call.bind x v) s t = (omega arith, (omega arith, tt))
+table-rises (Call.wind p q) s t = (omega arith, (omega arith, tt))
+table-rises (Call.look x) s t = (omega arith, (omega arith, tt))
+table-rises (Call.set x v) s t = (omega arith, (omega arith, tt))
+table-rises Call.here s t = tt
+table-rises (Call.goto a) s t = (omega arith, (omega arith, tt))
+table-rises Call.back s t = (omega arith, (omega arith, tt))
+table-rises (Call.peek a x) s t = (omega arith, (omega arith, (omega arith, tt)))
 
--- a sound store: the rows below Damaged decide
-pub sound-lowest : {s : List ℕ} {rows : List Row} {c : ℕ} → Sound s → Lowest (damagedRow s ∷ rows) c → Lowest rows c
-sound-lowest {s} {rows} {c} ok h = record { exact = go (h .exact); least = λ n a. h .least n (inr a) }
-  where
-    go : (c ≡ 0) ⊎ Applies (damagedRow s ∷ rows) c → (c ≡ 0) ⊎ Applies rows c
-    go (inl e) = inl e
-    go (inr (inl (e, k))) = absurd (k ok)
-    go (inr (inr a)) = inr a
+pub called-lowest : (c : Call) (s t s′ t′ : List ℕ) (n : Numbers) → Called c s t s′ t′ n → Lowest (damagedRow s ∷ table c s t) (n .code)
+called-lowest c s t s′ t′ n p = first-lowest (damagedRow s ∷ table c s t) (omega arith, table-rises c s t) (n .code) (p .first)
+
+module _ {s : List ℕ} {rows : List Row} {n : Numbers} {Same Done : Type 0} (a : Answers (damagedRow s ∷ rows) n Same Done) where
+  -- where the call is done the store was sound
+  pub done-sound : n .code ≡ 0 → Sound s
+  done-sound e = go (a .first)
+    where
+      go : First (damagedRow s ∷ rows) (n .code) → Sound s
+      go (inl (f, bad)) = absurd (omega arith)
+      go (inr (never, f)) = sound-stable s never
+
+  -- a sound store: the rows behind Damaged decide
+  pub sound-first : Sound s → First rows (n .code)
+  sound-first ok = go (a .first)
+    where
+      go : First (damagedRow s ∷ rows) (n .code) → First rows (n .code)
+      go (inl (f, bad)) = absurd (bad ok)
+      go (inr (never, f)) = f
 
 -- ---- what a done call leaves is a sound store of the same size, and no byte past the size changed
 pub done-leaves : (c : Call) (s t s′ t′ : List ℕ) (n : Numbers) → Sound s → Done c s t s′ t′ n → Sound s′ × Kept s s′
@@ -106,17 +124,15 @@ done-leaves (Call.peek a x) s t s′ t′ n ok (d, e, f) = rw e (ok, kept-self s
 -- ---- open: done where its arguments are good, else refused
 module _ (v k : ℕ) (tops s s′ : List ℕ) (n : Numbers) (p : OpenPromise v k tops s s′ n) where
   pub opens : Openable v k tops s → Opened v k tops s s′ n
-  opens good = go (p .answers .lowest .exact)
+  opens good = go (p .answers .first)
     where
-      go : (n .code ≡ 0) ⊎ Applies (row setup (Openable v k tops s → ⊥) ∷ []) (n .code) → Opened v k tops s s′ n
-      go (inl e) = p .answers .done e
-      go (inr (inl (e, never))) = absurd (never good)
-      go (inr (inr z)) = absurd z
+      go : First (row setup (Openable v k tops s → ⊥) ∷ []) (n .code) → Opened v k tops s s′ n
+      go (inl (e, bad)) = absurd (bad good)
+      go (inr (never, e)) = p .answers .done e
 
   pub opens-not : (Openable v k tops s → ⊥) → (n ≡ refusal setup) × (s′ ≡ s)
-  opens-not bad = go (p .answers .lowest .exact)
+  opens-not bad = go (p .answers .first)
     where
-      go : (n .code ≡ 0) ⊎ Applies (row setup (Openable v k tops s → ⊥) ∷ []) (n .code) → (n ≡ refusal setup) × (s′ ≡ s)
-      go (inl e) = absurd (omega (arith, p .answers .lowest .least setup (inl (refl, bad))))
-      go (inr (inl (e, never))) = let (a, b) = p .answers .refused (omega arith) in (a ∙ ap refusal (sym e), b)
-      go (inr (inr z)) = absurd z
+      go : First (row setup (Openable v k tops s → ⊥) ∷ []) (n .code) → (n ≡ refusal setup) × (s′ ≡ s)
+      go (inl (e, h)) = let (a, b) = p .answers .refused (omega arith) in (a ∙ ap refusal (sym e), b)
+      go (inr (never, e)) = absurd (never bad)

@@ -3,7 +3,7 @@
 -- with them, (i)'s other half and (k)'s printed text, is not here.
 -- Assumes nothing. Rows over V=256 and N=2,048 are by law; the others are computed by the rules' `run`.
 use mathlib.Core.Path.{_≡_, refl, sym, ap, _∙_}
-use mathlib.Core.Logic.{_⊎_, inl, inr}
+use mathlib.Core.Logic.{inl, inr}
 use mathlib.Core.Bool.{true, false}
 use mathlib.Core.Option.{none}
 use Prim.Native.Nat.{ℕ, zero, suc, _*_, _≤_, _<_}
@@ -17,7 +17,7 @@ use Rattle.rules.specs.Tree.{path}
 use Rattle.rules.specs.Far.{far}
 use Rattle.rules.specs.Moves.{Event, route}
 use Rattle.rules.specs.Calls.{openDeep, deciderAt, decidedBy, valueAt}
-use Rattle.rules.specs.Refusals.{lowest, setup, damaged, noVariable, noEnvironment, noValue, full, traceRoom, atTop}
+use Rattle.rules.specs.Refusals.{first, setup, damaged, noVariable, noEnvironment, noValue, full, traceRoom, atTop}
 use Rattle.rules.specs.Act.{Call, bind, wind, look, set, here, goto, back, peek, isMade, nextNumber, isFull, shown, backTo, eventsOf, rows, answerOf, changed, outcome, act, run}
 use Rattle.layout.specs.Limits.{maxVars, maxNodes, bareSize, sizeOf}
 use Rattle.layout.specs.Bytes.{part, u16}
@@ -29,7 +29,7 @@ use Rattle.layout.specs.Events.{eventD, eventB, eventsB}
 use Rattle.layout.specs.Same.{part-take}
 use Rattle.layout.specs.Opening.{topCells}
 use Rattle.store.specs.Answers.{Numbers, refusal, seen}
-use Rattle.store.specs.Tables.{Applies}
+use Rattle.store.specs.Tables.{First}
 use Rattle.store.specs.Promises.{damagedRow, variableRow, fullRow, Openable, Opened, OpenPromise, BindPromise}
 use Rattle.demands.specs.Calls.{Promised, called, opens, opens-not}
 use Rattle.demands.specs.NeverRead.{damaged-only, one-made}
@@ -150,17 +150,16 @@ opens-well v k a b c d tops s s′ n t e p = let o : Opened v k tops s s′ n = 
 -- ---- (b): one environment is all the room
 first-bind : FirstBindFull
 unfolding IsFull
-first-bind v tops s s′ n o x w s″ m known p = go (p .answers .lowest .exact)
+first-bind v tops s s′ n o x w s″ m known p = go (p .answers .first)
   where
     is-full : made s′ ≡ room s′
     is-full = one-made v 1 tops s s′ n o ∙ sym (o .nodes)
 
-    go : (m .code ≡ 0) ⊎ Applies (damagedRow s′ ∷ variableRow s′ x ∷ fullRow s′ ∷ []) (m .code) → (m ≡ refusal full) × (s″ ≡ s′)
-    go (inl e) = absurd (omega (arith, p .answers .lowest .least full (inr (inr (inl (refl, is-full))))))
-    go (inr (inl (e, bad))) = absurd (bad (o .sound))
-    go (inr (inr (inl (e, beyond)))) = absurd (omega (arith, o .vars))
-    go (inr (inr (inr (inl (e, f))))) = let (a, b) = p .answers .refused (omega arith) in (a ∙ ap refusal (sym e), b)
-    go (inr (inr (inr (inr z)))) = absurd z
+    go : First (damagedRow s′ ∷ variableRow s′ x ∷ fullRow s′ ∷ []) (m .code) → (m ≡ refusal full) × (s″ ≡ s′)
+    go (inl (e, bad)) = absurd (bad (o .sound))
+    go (inr (a, inl (e, beyond))) = absurd (omega (arith, o .vars))
+    go (inr (a, inr (b, inl (e, f)))) = let (r, same) = p .answers .refused (omega arith) in (r ∙ ap refusal (sym e), same)
+    go (inr (a, inr (b, inr (never, e)))) = absurd (never is-full)
 
 -- ---- (d): a store of 61 bytes lent with 60
 short : (tops s s′ : List ℕ) (n : Numbers) → Opened 1 4 tops s s′ n → Sound (take 60 s′) → ⊥
@@ -220,7 +219,7 @@ two-vars : (cs : List Call) (said : List Said)
 two-vars cs said e = gives 2 4 0 (one ++ one) cs said (omega arith) (omega arith) (omega arith) (omega arith) tops-two e
 
 pub cases : All table
-unfolding saidBy run act outcome rows answerOf eventsOf changed shown backTo isMade nextNumber isFull lowest upd path route far valueAt deciderAt decidedBy topCells asCell topC bareC bitsC part eventsB eventB eventD
+unfolding saidBy run act outcome rows answerOf eventsOf changed shown backTo isMade nextNumber isFull first upd path route far valueAt deciderAt decidedBy topCells asCell topC bareC bitsC part eventsB eventB eventD
 cases = (
   λ k a b. opens-well 256 k (omega arith) (omega arith) a b,
   (

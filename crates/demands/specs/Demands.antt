@@ -36,12 +36,12 @@ use Rattle.layout.specs.WalkLaws.{kept-self, focus-made}
 use Rattle.layout.specs.Same.{Bytes, becomes-one}
 use Rattle.layout.specs.Opening.{topCells}
 use Rattle.store.specs.Answers.{Numbers, refusal, seen}
-use Rattle.store.specs.Tables.{Row, row, Applies, Lowest, from-least}
+use Rattle.store.specs.Tables.{Row, row, First, Applies, Lowest, Rising, first-exact, first-lowest, rising-above}
 use Rattle.store.specs.Promises.{meaning, at, byAt, roomFor, Answers, Shows, damagedRow, Openable, Opened, OpenPromise, Told, SwitchDone, parentAt, GotoPromise, BackPromise, LookPromise, PeekPromise}
-use Rattle.demands.specs.Calls.{Promised, table, Done, Called, called, done-sound, Code, is-done, is-refused, code-of, opens, sound-lowest}
+use Rattle.demands.specs.Calls.{Promised, table, Done, Called, called, done-sound, Code, is-done, is-refused, code-of, opens, table-rises, sound-first}
 use Rattle.demands.specs.Tests.{sizeAt}
 use Rattle.demands.specs.AsAct.{AsAct, as-act, done-effect, told-none}
-use Rattle.demands.specs.NeverRead.{opened-value, above-damaged}
+use Rattle.demands.specs.NeverRead.{opened-value}
 use Rattle.demands.specs.Held.{Held, Way, switch-held}
 
 -- ==== 1. Every call ends with one of the numbered answers. A refusal comes exactly under its stated condition and changes
@@ -56,8 +56,9 @@ conditions c s t = damagedRow s ∷ table c s t
 pub record Answered (rows : List Row) (n : Numbers) (Unchanged : Type 0) : Type 0 where
   -- 0, or a number of the store's table (9 is the card program's)
   pub numbered : n .code ≤ atTop
-  -- 0 exactly where no condition holds, else the lowest number whose condition holds
-  pub exactly : Lowest rows (n .code)
+  -- 0 exactly where no condition holds, else the first number whose condition holds, which is the lowest
+  pub exactly : First rows (n .code)
+  pub lowest : Lowest rows (n .code)
   -- a refusal answers 0 beside its number, and no byte differs afterwards
   pub nothing : 1 ≤ n .code → n ≡ refusal (n .code)
   pub no-byte : 1 ≤ n .code → Unchanged
@@ -182,10 +183,11 @@ table-known (Call.goto a) s t = (omega arith, (omega arith, (omega arith, tt)))
 table-known Call.back s t = (omega arith, (omega arith, (omega arith, tt)))
 table-known (Call.peek a x) s t = (omega arith, (omega arith, (omega arith, (omega arith, tt))))
 
-answered : {rows : List Row} {n : Numbers} {Same Done : Type 0} → AtMost atTop rows → Answers rows n Same Done → Answered rows n Same
-answered {rows} {n} known a = record {
-  numbered = go (a .lowest .exact);
-  exactly = a .lowest;
+answered : {rows : List Row} {n : Numbers} {Same Done : Type 0} → AtMost atTop rows → Rising rows → Answers rows n Same Done → Answered rows n Same
+answered {rows} {n} known up a = record {
+  numbered = go (first-exact rows (n .code) (a .first));
+  exactly = a .first;
+  lowest = first-lowest rows up (n .code) (a .first);
   nothing = λ h. a .refused h .0;
   no-byte = λ h. a .refused h .1;
 }
@@ -196,8 +198,8 @@ answered {rows} {n} known a = record {
 
 pub demand-1 : Demand1
 demand-1 = record {
-  opening = λ v k tops s s′ n p. answered (omega arith, tt) (p .answers);
-  calls = λ c s t s′ t′ n p. answered (table-known c s t) (called c s t s′ t′ n p);
+  opening = λ v k tops s s′ n p. answered (omega arith, tt) (omega arith, tt) (p .answers);
+  calls = λ c s t s′ t′ n p. answered (table-known c s t) (omega arith, table-rises c s t) (called c s t s′ t′ n p);
 }
 
 -- ==== proofs of 2
@@ -243,31 +245,29 @@ module _ (s : List ℕ) (a x : ℕ) (n : Numbers) where
 looks : (s : List ℕ) (x : ℕ) (s′ : List ℕ) (n : Numbers) → Sound s → x < vars s → LookPromise s x s′ n → n ≡ readAs (at s (focus s) x) (byAt s (focus s) x)
 looks s x s′ n ok known p = go (code-of n)
   where
-    valued : (n .code ≡ 0) ⊎ Applies (conditions (Call.look x) s []) (n .code) → 1 ≤ n .code → (noValue ≡ n .code) × (at s (focus s) x ≡ unbound)
-    valued (inl e) h = absurd (omega arith)
-    valued (inr (inl (e, bad))) h = absurd (bad ok)
-    valued (inr (inr (inl (e, far)))) h = absurd (omega arith)
-    valued (inr (inr (inr (inl w)))) h = w
-    valued (inr (inr (inr (inr z)))) h = absurd z
+    valued : First (conditions (Call.look x) s []) (n .code) → 1 ≤ n .code → (noValue ≡ n .code) × (at s (focus s) x ≡ unbound)
+    valued (inl (e, bad)) h = absurd (bad ok)
+    valued (inr (a, inl (e, far))) h = absurd (omega arith)
+    valued (inr (a, inr (b, inl w))) h = w
+    valued (inr (a, inr (b, inr (c, e)))) h = absurd (omega arith)
 
     go : Code n → n ≡ readAs (at s (focus s) x) (byAt s (focus s) x)
     go (is-done e) = read s (focus s) x n (p .answers .done e)
-    go (is-refused h) = unread s (focus s) x n (p .answers .refused h .0) (valued (p .answers .lowest .exact) h)
+    go (is-refused h) = unread s (focus s) x n (p .answers .refused h .0) (valued (p .answers .first) h)
 
 peeks : (s : List ℕ) (a x : ℕ) (s′ : List ℕ) (n : Numbers) → Sound s → x < vars s → IsMade s a → PeekPromise s a x s′ n → n ≡ readAs (at s a x) (byAt s a x)
 peeks s a x s′ n ok known made p = go (code-of n)
   where
-    valued : (n .code ≡ 0) ⊎ Applies (conditions (Call.peek a x) s []) (n .code) → 1 ≤ n .code → (noValue ≡ n .code) × (at s a x ≡ unbound)
-    valued (inl e) h = absurd (omega arith)
-    valued (inr (inl (e, bad))) h = absurd (bad ok)
-    valued (inr (inr (inl (e, far)))) h = absurd (omega arith)
-    valued (inr (inr (inr (inl (e, un))))) h = absurd (un made)
-    valued (inr (inr (inr (inr (inl w))))) h = w
-    valued (inr (inr (inr (inr (inr z))))) h = absurd z
+    valued : First (conditions (Call.peek a x) s []) (n .code) → 1 ≤ n .code → (noValue ≡ n .code) × (at s a x ≡ unbound)
+    valued (inl (e, bad)) h = absurd (bad ok)
+    valued (inr (b, inl (e, far))) h = absurd (omega arith)
+    valued (inr (b, inr (c, inl (e, un)))) h = absurd (un made)
+    valued (inr (b, inr (c, inr (d, inl w)))) h = w
+    valued (inr (b, inr (c, inr (d, inr (f, e))))) h = absurd (omega arith)
 
     go : Code n → n ≡ readAs (at s a x) (byAt s a x)
     go (is-done e) = read s a x n (p .answers .done e)
-    go (is-refused h) = unread s a x n (p .answers .refused h .0) (valued (p .answers .lowest .exact) h)
+    go (is-refused h) = unread s a x n (p .answers .refused h .0) (valued (p .answers .first) h)
 
 unaltered : {rows : List Row} (s t : List ℕ) (a : ℕ) (s′ t′ : List ℕ) (n : Numbers)
     → Answers rows n ((s′ ≡ s) × (t′ ≡ t)) (SwitchDone s t a s′ t′ n) → (b x : ℕ) → at s′ b x ≡ at s b x
@@ -279,12 +279,12 @@ unaltered s t a s′ t′ n p b x = go (code-of n)
     go (is-refused h) = ap (λ (u : List ℕ). at u b x) (p .refused h .1 .0)
 
 -- a sound store is not refused as Damaged: every other number is above it
-undamaged : (c : Call) (s t : List ℕ) → Sound s → (k : ℕ) → Lowest (conditions c s t) k → k ≢ damaged
-undamaged c s t ok k l e = go (sound-lowest ok l .exact)
+undamaged : (c : Call) (s t : List ℕ) (k : ℕ) → First (table c s t) k → k ≢ damaged
+undamaged c s t k f e = go (first-exact (table c s t) k f)
   where
     go : (k ≡ 0) ⊎ Applies (table c s t) k → ⊥
     go (inl z) = omega arith
-    go (inr a) = omega (arith, from-least 3 (table c s t) (above-damaged c s t) k a)
+    go (inr a) = omega (arith, rising-above damaged (table c s t) (table-rises c s t) k a)
 
 by-the-rule : (c : Call) (s t s′ t′ : List ℕ) (n : Numbers) → Sound s → Called c s t s′ t′ n → ByTheRule c s t s′ t′ n
 unfolding meaning
@@ -293,7 +293,7 @@ by-the-rule c s t s′ t′ n ok p =
     record {
       sound = a .sound;
       kept = a .kept;
-      answers = undamaged c s t ok (n .code) (p .lowest);
+      answers = undamaged c s t (n .code) (sound-first p ok);
       means = home-means (view s′) (sound-view s′ (a .sound));
       replies = λ e. done-replies c s t s′ t′ n (p .done e);
       changes = λ e. done-effect s t s′ t′ n ok c (p .done e);
@@ -349,47 +349,44 @@ stays s t s′ t′ n b b′ ok d =
 
 resumed-there : (s t s′ t′ : List ℕ) (n : Numbers) → Bytes s → Bytes s′ → Sound s → GotoPromise s t (focus s) s′ t′ n
     → Told n (pos (focus s)) 0 0 × (s′ ≡ s) × (t′ ≡ t)
-resumed-there s t s′ t′ n b b′ ok p = go (p .answers .lowest .exact)
+resumed-there s t s′ t′ n b b′ ok p = go (p .answers .first)
   where
     no-event : length (eventsTo s (focus s)) ≡ 0
     no-event = ap length (events-none (view s .tree) (sound-view s ok .proper) (focus s))
 
-    go : (n .code ≡ 0) ⊎ Applies (conditions (Call.goto (focus s)) s t) (n .code) → Told n (pos (focus s)) 0 0 × (s′ ≡ s) × (t′ ≡ t)
-    go (inl e) = stays s t s′ t′ n b b′ ok (p .answers .done e)
-    go (inr (inl (e, bad))) = absurd (bad ok)
-    go (inr (inr (inl (e, un)))) = absurd (un (focus-made s ok))
-    go (inr (inr (inr (inl (e, w))))) = absurd (omega (arith, no-event))
-    go (inr (inr (inr (inr z)))) = absurd z
+    go : First (conditions (Call.goto (focus s)) s t) (n .code) → Told n (pos (focus s)) 0 0 × (s′ ≡ s) × (t′ ≡ t)
+    go (inl (e, bad)) = absurd (bad ok)
+    go (inr (x, inl (e, un))) = absurd (un (focus-made s ok))
+    go (inr (x, inr (y, inl (e, w)))) = absurd (omega (arith, no-event))
+    go (inr (x, inr (y, inr (z, e)))) = stays s t s′ t′ n b b′ ok (p .answers .done e)
 
 -- every goto and every back that answers 0
 gone : (s t : List ℕ) (a : ℕ) (s′ t′ : List ℕ) (n : Numbers) → Bytes s → GotoPromise s t a s′ t′ n → n .code ≡ 0 → Walked s t a s′ t′ n
-gone s t a s′ t′ n b p e = walked s t a s′ t′ n b (done-sound (p .answers .lowest) e) (p .answers .done e)
+gone s t a s′ t′ n b p e = walked s t a s′ t′ n b (done-sound (p .answers) e) (p .answers .done e)
 
 gone-back : (s t s′ t′ : List ℕ) (n : Numbers) → Bytes s → BackPromise s t s′ t′ n → n .code ≡ 0 → Walked s t (parentAt s) s′ t′ n
-gone-back s t s′ t′ n b p e = walked s t (parentAt s) s′ t′ n b (done-sound (p .answers .lowest) e) (p .answers .done e)
+gone-back s t s′ t′ n b p e = walked s t (parentAt s) s′ t′ n b (done-sound (p .answers) e) (p .answers .done e)
 
 -- with room enough and both made, no condition holds
 goes : (s t : List ℕ) (a : ℕ) (s′ t′ : List ℕ) (n : Numbers) → Bytes s → Sound s → IsMade s a → Enough s t a
     → GotoPromise s t a s′ t′ n → (n .code ≡ 0) × Walked s t a s′ t′ n
-goes s t a s′ t′ n b ok made enough p = let e = go (p .answers .lowest .exact) in (e, gone s t a s′ t′ n b p e)
+goes s t a s′ t′ n b ok made enough p = let e = go (p .answers .first) in (e, gone s t a s′ t′ n b p e)
   where
-    go : (n .code ≡ 0) ⊎ Applies (conditions (Call.goto a) s t) (n .code) → n .code ≡ 0
-    go (inl e) = e
-    go (inr (inl (e, bad))) = absurd (bad ok)
-    go (inr (inr (inl (e, un)))) = absurd (un made)
-    go (inr (inr (inr (inl (e, w))))) = absurd (omega (arith, enough))
-    go (inr (inr (inr (inr z)))) = absurd z
+    go : First (conditions (Call.goto a) s t) (n .code) → n .code ≡ 0
+    go (inl (e, bad)) = absurd (bad ok)
+    go (inr (x, inl (e, un))) = absurd (un made)
+    go (inr (x, inr (y, inl (e, w)))) = absurd (omega (arith, enough))
+    go (inr (x, inr (y, inr (z, e)))) = e
 
 goes-back : (s t s′ t′ : List ℕ) (n : Numbers) → Bytes s → Sound s → focus s ≢ 0 → Enough s t (parentAt s)
     → BackPromise s t s′ t′ n → (n .code ≡ 0) × Walked s t (parentAt s) s′ t′ n
-goes-back s t s′ t′ n b ok below enough p = let e = go (p .answers .lowest .exact) in (e, gone-back s t s′ t′ n b p e)
+goes-back s t s′ t′ n b ok below enough p = let e = go (p .answers .first) in (e, gone-back s t s′ t′ n b p e)
   where
-    go : (n .code ≡ 0) ⊎ Applies (conditions Call.back s t) (n .code) → n .code ≡ 0
-    go (inl e) = e
-    go (inr (inl (e, bad))) = absurd (bad ok)
-    go (inr (inr (inl (e, w)))) = absurd (omega (arith, enough))
-    go (inr (inr (inr (inl (e, top))))) = absurd (below top)
-    go (inr (inr (inr (inr z)))) = absurd z
+    go : First (conditions Call.back s t) (n .code) → n .code ≡ 0
+    go (inl (e, bad)) = absurd (bad ok)
+    go (inr (x, inl (e, w))) = absurd (omega (arith, enough))
+    go (inr (x, inr (y, inl (e, top)))) = absurd (below top)
+    go (inr (x, inr (y, inr (z, e)))) = e
 
 pub demand-3 : Demand3
 demand-3 = record { goto = goes; back = goes-back; went = gone; went-back = gone-back; resumed = resumed-there }

@@ -31,32 +31,17 @@ use Rattle.layout.specs.Laws.{of-buffer, cell-past}
 use Rattle.layout.specs.SoundLaws.{what-top, what-blank, up-top, up-blank, Place, is-top, is-inner, is-blank, place, blank-node, sound-fit, sound-view}
 use Rattle.layout.specs.Same.{Bytes, same-meant, AgreeTo, agree-vars, agree-room, agree-view, agree-sound, agree-back}
 use Rattle.layout.specs.Opening.{topCells}
-use mathlib.Core.Logic.{inl, inr}
+use mathlib.Core.Logic.{inl}
 use Rattle.store.specs.Answers.{Numbers, refusal}
-use Rattle.store.specs.Tables.{From, lowest-one, this, Row, Applies, from-least}
+use Rattle.store.specs.Tables.{first-one}
 use Rattle.store.specs.Promises.{meaning, at, roomFor, damagedRow, Opened, Openable, OpenPromise}
 use Rattle.demands.specs.Calls.{Promised, table, Called, called, Code, is-done, is-refused, code-of, done-sound, opens, opens-not}
 use Rattle.demands.specs.Tests.{sizeAt}
 use Rattle.demands.specs.AsAct.{acted, numbersOf, AsAct, as-act}
 
 -- ---- a store that is not sound is refused as such
-pub above-damaged : (c : Call) (s t : List ℕ) → From 3 (table c s t)
-above-damaged (Call.bind x v) s t = (omega arith, (omega arith, tt))
-above-damaged (Call.wind p q) s t = (omega arith, (omega arith, tt))
-above-damaged (Call.look x) s t = (omega arith, (omega arith, tt))
-above-damaged (Call.set x v) s t = (omega arith, (omega arith, tt))
-above-damaged Call.here s t = tt
-above-damaged (Call.goto a) s t = (omega arith, (omega arith, tt))
-above-damaged Call.back s t = (omega arith, (omega arith, tt))
-above-damaged (Call.peek a x) s t = (omega arith, (omega arith, (omega arith, tt)))
-
-from-lower : (rs : List Row) → From 3 rs → From 2 rs
-from-lower [] h = tt
-from-lower (r ∷ rs) h = (omega (arith, h .0), from-lower rs (h .1))
-
 pub damaged-only : (c : Call) (s t s′ t′ : List ℕ) (n : Numbers) → (Sound s → ⊥) → Called c s t s′ t′ n → n .code ≡ 2
-damaged-only c s t s′ t′ n bad p =
-    lowest-one (damagedRow s ∷ table c s t) (n .code) 2 (p .lowest) (this (damagedRow s) (table c s t) bad (omega arith) (from-lower (table c s t) (above-damaged c s t)))
+damaged-only c s t s′ t′ n bad p = first-one (damagedRow s ∷ table c s t) (n .code) 2 (p .first) (inl (refl, bad))
 
 -- ---- two runs of one call: from stores that agree up to the size, with traces of equal room
 module _ (c : Call) (s u t w : List ℕ) (agree : AgreeTo s u) (rooms : roomFor t ≡ roomFor w) where
@@ -82,7 +67,7 @@ module _ (c : Call) (s u t w : List ℕ) (agree : AgreeTo s u) (rooms : roomFor 
           cc (acted-alike)
 
       go : Dec (n .code ≡ m .code) → Code n → Fate s′ u′ t′ w′ n m
-      go (yes e) (is-done d) = acts (done-sound (p .lowest) d)
+      go (yes e) (is-done d) = acts (done-sound p d)
       go (yes e) (is-refused h) =
           let (r, (a, b)) = p .refused h in
           let (r′, (a′, b′)) = q .refused (omega arith) in

@@ -22,7 +22,7 @@ pub keeps : (c : Call) (s t s′ t′ : List ℕ) (n : Numbers) → Called c s t
 keeps c s t s′ t′ n p = go (code-of n)
   where
     go : Code n → Kept s s′
-    go (is-done e) = done-leaves c s t s′ t′ n (done-sound (p .lowest) e) (p .done e) .1
+    go (is-done e) = done-leaves c s t s′ t′ n (done-sound p e) (p .done e) .1
     go (is-refused h) = rw (p .refused h .1 .0) (kept-self s)
 
 module _ (s t s′ t′ s″ t″ : List ℕ) (n m : Numbers) where

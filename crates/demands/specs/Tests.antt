@@ -1,22 +1,22 @@
 -- A promise's table and the rules' table of tests say the same of a sound store, so the number that a promise gives is the
 -- one that `act` finds. From document 01, "The numbers a call can give back". Assumes nothing.
 use mathlib.Core.Path.{_≡_, refl, sym, ap, _∙_}
-use mathlib.Core.Logic.{_⊎_, inl, inr}
-use mathlib.Core.Bool.{Bool, true, false, not, _||_, _&&_}
+use mathlib.Core.Logic.{inl, inr}
+use mathlib.Core.Bool.{Bool, true, false, not, cond}
 use mathlib.Core.Option.{Option, none, some}
 use Prim.Native.Nat.{ℕ, zero, suc, _≤_}
 use native.Mathlib.Omega.{arith}
 use mathlib.Core.List.{List, [], _∷_}
-use lib.Dec.{leb, eqb}
+use lib.Dec.{leb}
 use lib.ListN.{length}
-use borrow.Author.Tests.{leb-true, leb-false, eqb-true}
-use Rattle.rules.specs.Basic.{clash, eqb-self, some≢none}
+use borrow.Author.Tests.{leb-true, leb-false}
+use Rattle.rules.specs.Basic.{clash, some≢none}
 use Rattle.rules.specs.Tree.{blank, wind, Tree}
 use Rattle.rules.specs.Values.{Cell, unbound, value}
 use Rattle.rules.specs.Store as store
 use Rattle.rules.specs.Store.{home}
 use Rattle.rules.specs.Refusals as refusals
-use Rattle.rules.specs.Refusals.{gives, lowest, lowest-only}
+use Rattle.rules.specs.Refusals.{first}
 use Rattle.rules.specs.Act.{Call, Size, isMade, nextNumber, isFull, shown, backTo, isUnbound, isNone, rows, eventsOf}
 use Rattle.rules.specs.Agree.{Numbered, numbered, next-is, is-made, made-is}
 use Rattle.layout.specs.Records.{vars, room, made, focus}
@@ -31,7 +31,7 @@ use Rattle.layout.specs.WalkLaws.{made-seen, seen-made, focus-made}
 use Rattle.layout.specs.Events.{eventsTo}
 use Rattle.layout.specs.Reading.{top-up}
 use Rattle.store.specs.Tables as tables
-use Rattle.store.specs.Tables.{Applies, Lowest}
+use Rattle.store.specs.Tables.{First, RisingFrom}
 use Rattle.store.specs.Promises.{meaning, at, roomFor, parentAt}
 use Rattle.demands.specs.Calls.{table}
 
@@ -54,51 +54,31 @@ TableSays (r ∷ rs) (q ∷ qs) = RowSays r q × TableSays rs qs
 row : {n : ℕ} {b : Bool} {W : Type 0} → Says b W → RowSays (tables.row n W) (refusals.row n b)
 row h = record { number = refl; says = h }
 
-given-applies : (rs : List tables.Row) (qs : List refusals.Row) → TableSays rs qs → (n : ℕ) → gives qs n ≡ true → Applies rs n
-given-applies [] [] h n g = clash g refl
-given-applies [] (q ∷ qs) h n g = absurd h
-given-applies (r ∷ rs) [] h n g = absurd h
-given-applies (r ∷ rs) (q ∷ qs) (h, k) n g = go (q .applies) (eqb (q .number) n) refl (h .says) g (given-applies rs qs k n)
-  where
-    go : (a b : Bool) → eqb (q .number) n ≡ b → Says a (r .when) → ((a && b) || gives qs n) ≡ true → (gives qs n ≡ true → Applies rs n) → Applies (r ∷ rs) n
-    go true true e w f ih = inl (h .number ∙ eqb-true (q .number) n e, w)
-    go true false e w f ih = inr (ih f)
-    go false true e w f ih = inr (ih f)
-    go false false e w f ih = inr (ih f)
-
-applies-given : (rs : List tables.Row) (qs : List refusals.Row) → TableSays rs qs → (n : ℕ) → Applies rs n → gives qs n ≡ true
-applies-given [] qs h n a = absurd a
-applies-given (r ∷ rs) [] h n a = absurd h
-applies-given (r ∷ rs) (q ∷ qs) (h, k) n (inl (e, w)) = go (q .applies) (h .says)
-  where
-    go : (a : Bool) → Says a (r .when) → ((a && eqb (q .number) n) || gives qs n) ≡ true
-    go true z = rw (sym (h .number) ∙ e, eqb-self n)
-    go false z = absurd (z w)
-applies-given (r ∷ rs) (q ∷ qs) (h, k) n (inr a) = go (q .applies && eqb (q .number) n) (applies-given rs qs k n a)
-  where
-    go : (b : Bool) → gives qs n ≡ true → (b || gives qs n) ≡ true
-    go true f = refl
-    go false f = f
-
 -- the code as the rules' tests give it
 abbrev pub refusedAs : ℕ → Option ℕ
 refusedAs zero = none
 refusedAs (suc k) = some (suc k)
 
-pub lowest-says : (rs : List tables.Row) (qs : List refusals.Row) → TableSays rs qs → (c : ℕ) → Lowest rs c → lowest qs ≡ refusedAs c
-lowest-says rs qs h c l = sym (lowest-only qs (refusedAs c) (go c l))
+refused-as : (c : ℕ) → 1 ≤ c → refusedAs c ≡ some c
+refused-as zero h = absurd (omega arith)
+refused-as (suc k) h = refl
+
+-- the first that applies, in both
+pub first-says : (k : ℕ) (rs : List tables.Row) (qs : List refusals.Row) → RisingFrom k rs → TableSays rs qs → (c : ℕ) → First rs c → first qs ≡ refusedAs c
+unfolding first
+first-says k [] [] up h c e = rw e
+first-says k [] (q ∷ qs) up h c f = absurd h
+first-says k (r ∷ rs) [] up h c f = absurd h
+first-says k (r ∷ rs) (q ∷ qs) up (h, hs) c (inl (e, w)) = go (q .applies) (h .says)
   where
-    go : (c : ℕ) → Lowest rs c → refusals.Lowest qs (refusedAs c)
-    go zero l = λ n. never n (gives qs n) refl
-      where
-        never : (n : ℕ) (b : Bool) → gives qs n ≡ b → b ≡ false
-        never n true e = absurd (omega (arith, l .least n (given-applies rs qs h n e)))
-        never n false e = refl
-    go (suc k) l = (applies-given rs qs h (suc k) (applied (l .exact)), λ m g. l .least m (given-applies rs qs h m g) .1)
-      where
-        applied : (suc k ≡ 0) ⊎ Applies rs (suc k) → Applies rs (suc k)
-        applied (inl e) = absurd (omega arith)
-        applied (inr a) = a
+    go : (b : Bool) → Says b (r .when) → cond b (some (q .number)) (first qs) ≡ refusedAs c
+    go true z = ap some (sym (h .number) ∙ e) ∙ sym (refused-as c (omega (arith, up .0)))
+    go false z = absurd (z w)
+first-says k (r ∷ rs) (q ∷ qs) up (h, hs) c (inr (never, f)) = go (q .applies) (h .says) (first-says (r .number) rs qs (up .1) hs c f)
+  where
+    go : (b : Bool) → Says b (r .when) → first qs ≡ refusedAs c → cond b (some (q .number)) (first qs) ≡ refusedAs c
+    go true z ih = absurd (never z)
+    go false z ih = ih
 
 -- ---- the conditions, tested on the meaning
 says-le : (a b : ℕ) → Says (leb a b) (a ≤ b)

@@ -1,7 +1,7 @@
 -- From what the private functions ensure to what the calls promise: each way out of a call keeps its promise.
 -- Assumes nothing.
 use mathlib.Core.Path.{_≡_, refl, sym, ap, subst, _∙_}
-use mathlib.Core.Logic.{_≢_}
+use mathlib.Core.Logic.{_≢_, inl, inr}
 use mathlib.Core.Bool.{Bool, true, false}
 use Prim.Native.Nat.{ℕ, _+_, _≤_, _<_}
 use native.Mathlib.Omega.{arith}
@@ -42,19 +42,19 @@ use Rattle.layout.specs.OpenLaws.{opens}
 use Rattle.layout.specs.GrowLaws.{set-becomes, bind-becomes, wind-becomes, can-grow, is-binding, is-wind}
 use Rattle.store.specs.declared.Answer.the-variants.{Opened, Number, Made, Switched, Setup, Damaged, NoVariable, NoEnvironment, Unbound, Full, TraceRoom, Top}
 use Rattle.store.specs.Answers.{Numbers, refusal, seen, numbers, ofCell}
-use Rattle.store.specs.Tables.{Row, row, From, Lowest, nothing-applies, not-this, this, add-last}
+use Rattle.store.specs.Tables.{Row, row, First}
 use Rattle.store.specs.Promises.{meaning, at, byAt, Answers, Shows, damagedRow, variableRow, environmentRow, valueRow, fullRow, roomRow, topRow, roomFor, entering, parentAt, Openable, Switches, LookPromise, PeekPromise, HerePromise, SetPromise, BindPromise, WindPromise, GotoPromise, BackPromise, OpenPromise}
 
 -- ---- row by row: this one applies, and nothing is changed; this one does not; none is left, and the call is done
 module _ {rs : List Row} {Same Done : Type 0} where
-  pub give : (r : Row) → r .when → 1 ≤ r .number → From (r .number) rs → Same → Answers (r ∷ rs) (refusal (r .number)) Same Done
-  give r w low from same = record { lowest = this r rs w low from; refused = λ l. (refl, same); done = λ e. absurd (omega arith) }
+  pub give : (r : Row) → r .when → 1 ≤ r .number → Same → Answers (r ∷ rs) (refusal (r .number)) Same Done
+  give r w low same = record { first = inl (refl, w); refused = λ l. (refl, same); done = λ e. absurd (omega arith) }
 
   pub skip : {r : Row} {n : Numbers} → (r .when → ⊥) → Answers rs n Same Done → Answers (r ∷ rs) n Same Done
-  skip never h = record { lowest = not-this never (h .lowest); refused = h .refused; done = h .done }
+  skip never h = record { first = inr (never, h .first); refused = h .refused; done = h .done }
 
 pub finish : {n : Numbers} {Same Done : Type 0} → n .code ≡ 0 → Done → Answers [] n Same Done
-finish {n} e d = record { lowest = rw e nothing-applies; refused = λ l. absurd (omega arith); done = λ z. d }
+finish {n} e d = record { first = e; refused = λ l. absurd (omega arith); done = λ z. d }
 
 -- the cell of x shows the value at the focus
 pub at-focus : (s : List ℕ) → Sound s → (x : ℕ) → x < vars s → at s (focus s) x ≡ asCell (bareC (cellOf s x))
@@ -87,7 +87,7 @@ module _ (s : List ℕ) (a x : ℕ) (c : List ℕ) (n : ℕ) (is : at s a x ≡ 
   shows = go (eqb (getD c 0 0) 0) refl
     where
       go : (b : Bool) → eqb (getD c 0 0) 0 ≡ b → Shown (numbers (ofCell c n))
-      go true e = rw e (give (valueRow s a x) (is ∙ no-value c (eqb-true _ _ e)) (omega arith) tt tt)
+      go true e = rw e (give (valueRow s a x) (is ∙ no-value c (eqb-true _ _ e)) (omega arith) tt)
       go false e =
           let v : at s a x ≡ value (toZ w32 (bitsC c)) = is ∙ a-value c (eqb-false _ _ e) in
           rw e (skip (bound v) (finish refl (toZ w32 (bitsC c), ap (seen (toZ w32 (bitsC c))) by-is, v)))
@@ -95,7 +95,7 @@ module _ (s : List ℕ) (a x : ℕ) (c : List ℕ) (n : ℕ) (is : at s a x ≡ 
 -- ---- here and look
 pub here-damaged : (s : List ℕ) → (Sound s → ⊥) → HerePromise s s (numbers Damaged)
 unfolding numbers
-here-damaged s no-store = record { same = refl; answers = give (damagedRow s) no-store (omega arith) tt tt }
+here-damaged s no-store = record { same = refl; answers = give (damagedRow s) no-store (omega arith) tt }
 
 pub here-done : (s : List ℕ) → Sound s → (f : ℕ) → f ≡ focus s → HerePromise s s (numbers (Number f))
 unfolding numbers
@@ -104,11 +104,11 @@ here-done s ok f e = record { same = refl; answers = skip (λ h. h ok) (finish r
 module _ (s : List ℕ) (x : ℕ) where
   pub look-damaged : (Sound s → ⊥) → LookPromise s x s (numbers Damaged)
   unfolding numbers
-  look-damaged no-store = record { same = refl; answers = give (damagedRow s) no-store (omega arith) (omega arith, (omega arith, tt)) tt }
+  look-damaged no-store = record { same = refl; answers = give (damagedRow s) no-store (omega arith) tt }
 
   pub look-unknown : Sound s → vars s ≤ x → LookPromise s x s (numbers NoVariable)
   unfolding numbers
-  look-unknown ok l = record { same = refl; answers = skip (λ h. h ok) (give (variableRow s x) l (omega arith) (omega arith, tt) tt) }
+  look-unknown ok l = record { same = refl; answers = skip (λ h. h ok) (give (variableRow s x) l (omega arith) tt) }
 
   pub look-shown : Sound s → x < vars s → (n : ℕ) → binderOf n ≡ deciderAt (view s .tree) (focus s) x → LookPromise s x s (numbers (ofCell (bareC (cellOf s x)) n))
   look-shown ok l n by = record { same = refl; answers = skip (λ h. h ok) (skip (λ h. omega arith) (shows s (focus s) x (bareC (cellOf s x)) n (at-focus s ok x l) by)) }
@@ -117,16 +117,16 @@ module _ (s : List ℕ) (x : ℕ) where
 module _ (s : List ℕ) (x : ℕ) (v : ℤ) where
   pub set-damaged : (Sound s → ⊥) → SetPromise s x v s (numbers Damaged)
   unfolding numbers
-  set-damaged no-store = record { answers = give (damagedRow s) no-store (omega arith) (omega arith, (omega arith, tt)) refl }
+  set-damaged no-store = record { answers = give (damagedRow s) no-store (omega arith) refl }
 
   pub set-unknown : Sound s → vars s ≤ x → SetPromise s x v s (numbers NoVariable)
   unfolding numbers
-  set-unknown ok l = record { answers = skip (λ h. h ok) (give (variableRow s x) l (omega arith) (omega arith, tt) refl) }
+  set-unknown ok l = record { answers = skip (λ h. h ok) (give (variableRow s x) l (omega arith) refl) }
 
   pub set-unbound : Sound s → x < vars s → getD (bareC (cellOf s x)) 0 0 ≡ 0 → SetPromise s x v s (numbers Unbound)
   unfolding numbers
   set-unbound ok l e =
-      record { answers = skip (λ h. h ok) (skip (λ h. omega arith) (give (valueRow s (focus s) x) (at-focus s ok x l ∙ no-value _ e) (omega arith) tt refl)) }
+      record { answers = skip (λ h. h ok) (skip (λ h. omega arith) (give (valueRow s (focus s) x) (at-focus s ok x l ∙ no-value _ e) (omega arith) refl)) }
 
   pub set-done-keeps : Sound s → x < vars s → getD (bareC (cellOf s x)) 0 0 ≢ 0 → SFits w32 v → (f : ℕ) → f ≡ focus s → SetPromise s x v (setB s x v) (numbers (Number f))
   unfolding numbers meaning
@@ -145,15 +145,15 @@ module _ (s : List ℕ) (x : ℕ) (v : ℤ) where
 module _ (s : List ℕ) (x : ℕ) (v : ℤ) where
   pub bind-damaged : (Sound s → ⊥) → BindPromise s x v s (numbers Damaged)
   unfolding numbers
-  bind-damaged no-store = record { answers = give (damagedRow s) no-store (omega arith) (omega arith, (omega arith, tt)) refl }
+  bind-damaged no-store = record { answers = give (damagedRow s) no-store (omega arith) refl }
 
   pub bind-unknown : Sound s → vars s ≤ x → BindPromise s x v s (numbers NoVariable)
   unfolding numbers
-  bind-unknown ok l = record { answers = skip (λ h. h ok) (give (variableRow s x) l (omega arith) (omega arith, tt) refl) }
+  bind-unknown ok l = record { answers = skip (λ h. h ok) (give (variableRow s x) l (omega arith) refl) }
 
   pub bind-full : Sound s → x < vars s → IsFull s → BindPromise s x v s (numbers Full)
   unfolding numbers
-  bind-full ok l h = record { answers = skip (λ h. h ok) (skip (λ h. omega arith) (give (fullRow s) h (omega arith) tt refl)) }
+  bind-full ok l h = record { answers = skip (λ h. h ok) (skip (λ h. omega arith) (give (fullRow s) h (omega arith) refl)) }
 
   pub bind-done : Sound s → x < vars s → (IsFull s → ⊥) → SFits w32 v → (n : ℕ) → n ≡ nextOf s → BindPromise s x v (bindB s x v) (numbers (Made (record { node = n; events = 0 })))
   unfolding numbers meaning at view viewF fieldsOf home nextOf
@@ -176,15 +176,15 @@ module _ (s : List ℕ) (x : ℕ) (v : ℤ) where
 module _ (s : List ℕ) (a x : ℕ) where
   pub peek-damaged : (Sound s → ⊥) → PeekPromise s a x s (numbers Damaged)
   unfolding numbers
-  peek-damaged no-store = record { same = refl; answers = give (damagedRow s) no-store (omega arith) (omega arith, (omega arith, (omega arith, tt))) tt }
+  peek-damaged no-store = record { same = refl; answers = give (damagedRow s) no-store (omega arith) tt }
 
   pub peek-unknown : Sound s → vars s ≤ x → PeekPromise s a x s (numbers NoVariable)
   unfolding numbers
-  peek-unknown ok l = record { same = refl; answers = skip (λ h. h ok) (give (variableRow s x) l (omega arith) (omega arith, (omega arith, tt)) tt) }
+  peek-unknown ok l = record { same = refl; answers = skip (λ h. h ok) (give (variableRow s x) l (omega arith) tt) }
 
   pub peek-unmade : Sound s → x < vars s → (IsMade s a → ⊥) → PeekPromise s a x s (numbers NoEnvironment)
   unfolding numbers
-  peek-unmade ok l h = record { same = refl; answers = skip (λ h. h ok) (skip (λ h. omega arith) (give (environmentRow s a) h (omega arith) (omega arith, tt) tt)) }
+  peek-unmade ok l h = record { same = refl; answers = skip (λ h. h ok) (skip (λ h. omega arith) (give (environmentRow s a) h (omega arith) tt)) }
 
   pub peek-shown : Sound s → x < vars s → IsMade s a → {n : ℕ} {c : List ℕ} → FoundAt s a x n c → PeekPromise s a x s (numbers (ofCell c n))
   unfolding at meaning
@@ -195,15 +195,15 @@ module _ (s : List ℕ) (a x : ℕ) where
 module _ (s t : List ℕ) (p q : ℕ) where
   pub wind-damaged : (Sound s → ⊥) → WindPromise s t p q s t (numbers Damaged)
   unfolding numbers
-  wind-damaged no-store = record { answers = give (damagedRow s) no-store (omega arith) (omega arith, (omega arith, tt)) (refl, refl) }
+  wind-damaged no-store = record { answers = give (damagedRow s) no-store (omega arith) (refl, refl) }
 
   pub wind-full : Sound s → IsFull s → WindPromise s t p q s t (numbers Full)
   unfolding numbers
-  wind-full ok h = record { answers = skip (λ h. h ok) (give (fullRow s) h (omega arith) (omega arith, tt) (refl, refl)) }
+  wind-full ok h = record { answers = skip (λ h. h ok) (give (fullRow s) h (omega arith) (refl, refl)) }
 
   pub wind-no-room : Sound s → (IsFull s → ⊥) → roomFor t < 1 → WindPromise s t p q s t (numbers TraceRoom)
   unfolding numbers
-  wind-no-room ok space h = record { answers = skip (λ h. h ok) (skip space (give (roomRow t (entering s p)) h (omega arith) tt (refl, refl))) }
+  wind-no-room ok space h = record { answers = skip (λ h. h ok) (skip space (give (roomRow t (entering s p)) h (omega arith) (refl, refl))) }
 
   pub wind-done : Sound s → (IsFull s → ⊥) → 1 ≤ roomFor t
       → WindPromise s t p q (windB s p q) (told (entering s p) t) (numbers (Made (record { node = nextOf s; events = 1 })))
@@ -230,7 +230,7 @@ module _ (s t : List ℕ) (a : ℕ) where
 
   pub switch-no-room : roomFor t < length (eventsTo s a) → Outcome s t (numbers TraceRoom)
   unfolding numbers
-  switch-no-room h = give (roomRow t (eventsTo s a)) h (omega arith) tt (refl, refl)
+  switch-no-room h = give (roomRow t (eventsTo s a)) h (omega arith) (refl, refl)
 
   pub switch-done : Sound s → IsMade s a → length (eventsTo s a) ≤ roomFor t → {s′ : List ℕ} → Becomes s s′ (goto a (view s))
       → Outcome s′ (told (eventsTo s a) t) (numbers (Switched (record { focus = a; moves = movesTo s a; events = length (eventsTo s a) })))
@@ -252,11 +252,11 @@ module _ (s t : List ℕ) (a : ℕ) where
 module _ (s t : List ℕ) (a : ℕ) where
   pub goto-damaged : (Sound s → ⊥) → GotoPromise s t a s t (numbers Damaged)
   unfolding numbers
-  goto-damaged no-store = record { answers = give (damagedRow s) no-store (omega arith) (omega arith, (omega arith, tt)) (refl, refl) }
+  goto-damaged no-store = record { answers = give (damagedRow s) no-store (omega arith) (refl, refl) }
 
   pub goto-unmade : Sound s → (IsMade s a → ⊥) → GotoPromise s t a s t (numbers NoEnvironment)
   unfolding numbers
-  goto-unmade ok h = record { answers = skip (λ h. h ok) (give (environmentRow s a) h (omega arith) (omega arith, tt) (refl, refl)) }
+  goto-unmade ok h = record { answers = skip (λ h. h ok) (give (environmentRow s a) h (omega arith) (refl, refl)) }
 
   pub goto-switched : Sound s → IsMade s a → {s′ t′ : List ℕ} {n : Numbers} → Switches s t a s′ t′ (roomRow t (eventsTo s a) ∷ []) n → GotoPromise s t a s′ t′ n
   goto-switched ok made h = record { answers = skip (λ h. h ok) (skip (λ h. h made) h) }
@@ -264,7 +264,7 @@ module _ (s t : List ℕ) (a : ℕ) where
 module _ (s t : List ℕ) where
   pub back-damaged : (Sound s → ⊥) → BackPromise s t s t (numbers Damaged)
   unfolding numbers
-  back-damaged no-store = record { answers = give (damagedRow s) no-store (omega arith) (omega arith, (omega arith, tt)) (refl, refl) }
+  back-damaged no-store = record { answers = give (damagedRow s) no-store (omega arith) (refl, refl) }
 
   -- at the top back has no events
   top-events : Sound s → focus s ≡ 0 → length (eventsTo s (parentAt s)) ≡ 0
@@ -277,18 +277,23 @@ module _ (s t : List ℕ) where
 
   pub back-top : Sound s → focus s ≡ 0 → BackPromise s t s t (numbers Top)
   unfolding numbers
-  back-top ok e = record { answers = skip (λ h. h ok) (skip (λ h. omega (arith, top-events ok e)) (give (topRow s) e (omega arith) tt (refl, refl))) }
+  back-top ok e = record { answers = skip (λ h. h ok) (skip (λ h. omega (arith, top-events ok e)) (give (topRow s) e (omega arith) (refl, refl))) }
 
   pub back-switched : Sound s → focus s ≢ 0 → (p : ℕ) → p ≡ parentAt s → {s′ t′ : List ℕ} {n : Numbers} → Switches s t p s′ t′ (roomRow t (eventsTo s p) ∷ []) n → BackPromise s t s′ t′ n
   back-switched ok low p e {s′} {t′} {n} h =
       let w = subst (λ (a : ℕ). Switches s t a s′ t′ (roomRow t (eventsTo s a) ∷ []) n) e h in
-      record { answers = skip (λ h. h ok) (record { lowest = add-last low (w .lowest); refused = w .refused; done = w .done }) }
+      record { answers = skip (λ h. h ok) (record { first = last (w .first); refused = w .refused; done = w .done }) }
+    where
+      -- the last row does not apply
+      last : First (roomRow t (eventsTo s (parentAt s)) ∷ []) (n .code) → First (roomRow t (eventsTo s (parentAt s)) ∷ topRow s ∷ []) (n .code)
+      last (inl a) = inl a
+      last (inr (never, e)) = inr (never, inr (low, e))
 
 -- ---- open
 module _ (v n : ℕ) (tops s : List ℕ) where
   pub open-setup : (Openable v n tops s → ⊥) → OpenPromise v n tops s s (numbers Setup)
   unfolding numbers
-  open-setup h = record { answers = give (row setup (Openable v n tops s → ⊥)) h (omega arith) tt refl }
+  open-setup h = record { answers = give (row setup (Openable v n tops s → ⊥)) h (omega arith) refl }
 
   pub open-done : Openable v n tops s → OpenPromise v n tops s (openB v n tops ++ drop (sizeOf v n) s) (numbers Opened)
   unfolding numbers at meaning past

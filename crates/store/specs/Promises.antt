@@ -28,7 +28,7 @@ use Rattle.layout.specs.Opening.{OpenFits}
 use Rattle.layout.specs.Events.{told}
 use Rattle.layout.specs.Events.{eventsTo}
 use Rattle.store.specs.Answers.{Numbers, refusal, done, seen}
-use Rattle.store.specs.Tables.{Row, row, Lowest}
+use Rattle.store.specs.Tables.{Row, row, First}
 
 -- what a store means: the deep store of TR397's Figure 2, with the top values
 unfoldable pub meaning : List ℕ → Deep
@@ -48,7 +48,7 @@ roomFor t = length t / eventSize
 
 -- the numbers are the table's; a refusal answers 0 beside its number and changes nothing; done is as said
 pub record Answers (rows : List Row) (n : Numbers) (Same Done : Type 0) : Type 0 where
-  pub lowest : Lowest rows (n .code)
+  pub first : First rows (n .code)
   pub refused : 1 ≤ n .code → (n ≡ refusal (n .code)) × Same
   pub done : n .code ≡ 0 → Done
 

@@ -1,8 +1,9 @@
--- "Exactly when" and "the lowest number that applies is given", stated once for every call: a table of numbers and the
--- conditions under which they apply. From document 01, "The numbers a call can give back". Assumes nothing.
-use mathlib.Core.Path.{_≡_, refl, sym, _∙_}
-use mathlib.Core.Logic.{_⊎_, inl, inr, ⊎-elim}
-use Prim.Native.Nat.{ℕ, zero, suc, _≤_}
+-- "Exactly when", stated once for every call: a table of numbers and the conditions under which they apply, in the order of
+-- precedence. The first row that applies gives the number; where a table's numbers rise, as the store's do, that is "the lowest number
+-- that applies" (`first-lowest`). From document 01, "The numbers a call can give back". Assumes nothing.
+use mathlib.Core.Path.{_≡_, sym, _∙_}
+use mathlib.Core.Logic.{_⊎_, inl, inr}
+use Prim.Native.Nat.{ℕ, _≤_, _<_}
 use native.Mathlib.Omega.{arith}
 use mathlib.Core.List.{List, [], _∷_}
 
@@ -14,6 +15,20 @@ pub record Row : Type 1 where
 abbrev pub row : ℕ → Type 0 → Row
 row n c = record { number = n; when = c }
 
+-- 0 where no row applies, else the number of the first that does
+abbrev pub First : List Row → ℕ → Type 0
+First [] c = c ≡ 0
+First (r ∷ rs) c = ((r .number ≡ c) × r .when) ⊎ ((r .when → ⊥) × First rs c)
+
+-- two codes that a table allows coincide
+pub first-one : (rs : List Row) (c d : ℕ) → First rs c → First rs d → c ≡ d
+first-one [] c d h k = h ∙ sym k
+first-one (r ∷ rs) c d (inl (e, w)) (inl (f, v)) = sym e ∙ f
+first-one (r ∷ rs) c d (inl (e, w)) (inr (never, k)) = absurd (never w)
+first-one (r ∷ rs) c d (inr (never, h)) (inl (f, v)) = absurd (never v)
+first-one (r ∷ rs) c d (inr (never, h)) (inr (never′, k)) = first-one rs c d h k
+
+-- ---- document 01's "the lowest number that applies", for a table whose numbers rise
 -- the number n applies
 abbrev pub Applies : List Row → ℕ → Type 0
 Applies [] n = ⊥
@@ -24,60 +39,35 @@ pub record Lowest (rs : List Row) (code : ℕ) : Type 0 where
   pub exact : (code ≡ 0) ⊎ Applies rs code
   pub least : (n : ℕ) → Applies rs n → (1 ≤ code) × (code ≤ n)
 
--- two codes that a table allows coincide
-pub lowest-one : (rs : List Row) (c d : ℕ) → Lowest rs c → Lowest rs d → c ≡ d
-lowest-one rs c d h k = go (h .exact) (k .exact)
+-- each number is higher than the one before it, the first than k
+abbrev pub RisingFrom : ℕ → List Row → Type 0
+RisingFrom k [] = Unit {0}
+RisingFrom k (r ∷ rs) = (k < r .number) × RisingFrom (r .number) rs
+
+abbrev pub Rising : List Row → Type 0
+Rising rs = RisingFrom 0 rs
+
+pub first-exact : (rs : List Row) (c : ℕ) → First rs c → (c ≡ 0) ⊎ Applies rs c
+first-exact [] c h = inl h
+first-exact (r ∷ rs) c (inl a) = inr (inl a)
+first-exact (r ∷ rs) c (inr (never, h)) = go (first-exact rs c h)
   where
-    go : (c ≡ 0) ⊎ Applies rs c → (d ≡ 0) ⊎ Applies rs d → c ≡ d
-    go (inl e) (inl f) = e ∙ sym f
-    go (inl e) (inr f) = absurd (omega (arith, h .least d f))
-    go (inr e) (inl f) = absurd (omega (arith, k .least c e))
-    go (inr e) (inr f) = omega (arith, h .least d f, k .least c e)
+    go : (c ≡ 0) ⊎ Applies rs c → (c ≡ 0) ⊎ Applies (r ∷ rs) c
+    go (inl e) = inl e
+    go (inr a) = inr (inr a)
 
--- ---- a table whose numbers rise, gone through from its first row
-abbrev pub From : ℕ → List Row → Type 0
-From n [] = Unit {0}
-From n (r ∷ rs) = (n ≤ r .number) × From n rs
+pub rising-above : (k : ℕ) (rs : List Row) → RisingFrom k rs → (n : ℕ) → Applies rs n → k < n
+rising-above k [] up n a = absurd a
+rising-above k (r ∷ rs) up n (inl (e, w)) = omega (arith, up .0)
+rising-above k (r ∷ rs) up n (inr a) = omega (arith, up .0, rising-above (r .number) rs (up .1) n a)
 
-pub from-least : (n : ℕ) (rs : List Row) → From n rs → (m : ℕ) → Applies rs m → n ≤ m
-from-least n [] h m a = absurd a
-from-least n (r ∷ rs) h m (inl (e, w)) = omega (arith, h .0)
-from-least n (r ∷ rs) h m (inr a) = from-least n rs (h .1) m a
+first-least : (k : ℕ) (rs : List Row) → RisingFrom k rs → (c : ℕ) → First rs c → (n : ℕ) → Applies rs n → (k < c) × (c ≤ n)
+first-least k [] up c h n a = absurd a
+first-least k (r ∷ rs) up c (inl (e, w)) n (inl (f, v)) = (omega (arith, up .0), omega arith)
+first-least k (r ∷ rs) up c (inl (e, w)) n (inr a) = (omega (arith, up .0), omega (arith, rising-above (r .number) rs (up .1) n a))
+first-least k (r ∷ rs) up c (inr (never, h)) n (inl (f, v)) = absurd (never v)
+first-least k (r ∷ rs) up c (inr (never, h)) n (inr a) =
+    let (low, least) = first-least (r .number) rs (up .1) c h n a in (omega (arith, up .0), least)
 
--- no row is left: done
-pub nothing-applies : Lowest [] 0
-nothing-applies = record { exact = inl refl; least = λ n a. absurd a }
-
--- this row does not apply
-pub not-this : {r : Row} {rs : List Row} {c : ℕ} → (r .when → ⊥) → Lowest rs c → Lowest (r ∷ rs) c
-not-this {r} {rs} {c} never h = record { exact = exact (h .exact); least = least }
-  where
-    exact : (c ≡ 0) ⊎ Applies rs c → (c ≡ 0) ⊎ Applies (r ∷ rs) c
-    exact (inl e) = inl e
-    exact (inr a) = inr (inr a)
-
-    least : (n : ℕ) → Applies (r ∷ rs) n → (1 ≤ c) × (c ≤ n)
-    least n (inl (e, w)) = absurd (never w)
-    least n (inr a) = h .least n a
-
--- this row applies, and the rest are no lower
-pub this : (r : Row) (rs : List Row) → r .when → 1 ≤ r .number → From (r .number) rs → Lowest (r ∷ rs) (r .number)
-this r rs holds one from = record { exact = inr (inl (refl, holds)); least = least }
-  where
-    least : (n : ℕ) → Applies (r ∷ rs) n → (1 ≤ r .number) × (r .number ≤ n)
-    least n (inl (e, w)) = (one, omega arith)
-    least n (inr a) = (one, from-least (r .number) rs from n a)
-
--- a last row that does not apply
-pub add-last : {r l : Row} {c : ℕ} → (l .when → ⊥) → Lowest (r ∷ []) c → Lowest (r ∷ l ∷ []) c
-add-last {r} {l} {c} never h = record { exact = exact (h .exact); least = least }
-  where
-    exact : (c ≡ 0) ⊎ Applies (r ∷ []) c → (c ≡ 0) ⊎ Applies (r ∷ l ∷ []) c
-    exact (inl e) = inl e
-    exact (inr (inl a)) = inr (inl a)
-    exact (inr (inr a)) = absurd a
-
-    least : (n : ℕ) → Applies (r ∷ l ∷ []) n → (1 ≤ c) × (c ≤ n)
-    least n (inl a) = h .least n (inl a)
-    least n (inr (inl (e, w))) = absurd (never w)
-    least n (inr (inr a)) = absurd a
+pub first-lowest : (rs : List Row) → Rising rs → (c : ℕ) → First rs c → Lowest rs c
+first-lowest rs up c h = record { exact = first-exact rs c h; least = λ n a. let (low, least) = first-least 0 rs up c h n a in (omega arith, least) }
