@@ -52,3 +52,7 @@ eventLine entering thunk place = field (kindText entering) thunk ++ field (bytes
 -- the one line of a card that is no good
 unfoldable pub badLine : ℕ → List ℕ
 badLine n = field (bytes "line=") n ++ bytes " code=9\n"
+
+-- no line has more bytes
+abbrev pub longest : ℕ
+longest = 96
