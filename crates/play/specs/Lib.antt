@@ -1,2 +1,3 @@
--- What the run of a card says of its lines and its pages.
-pub mod Pages
+-- What a card prints, and how far its run has come.
+pub mod Output
+pub mod Steps

@@ -1,26 +1,30 @@
 // Runs one card from its bytes, and writes what it prints to a file descriptor, page by page.
 mod page;
+mod progress;
+mod reading;
 
 use crate::page::Page;
-use crate::page::put_events;
-use crate::page::put_report;
+use crate::progress::Progress;
+use crate::progress::fill;
+use crate::progress::is_ended;
+use crate::reading::Headed;
+use crate::reading::Heads;
+use crate::reading::read_heads;
+use crate::reading::read_tops;
 use card::check::Verdict;
 use card::check::check;
-use card::run::run;
-use card::tops::put_top;
 use layout::Store;
 use print::Print;
 use print::put_bad;
-use text::line::Line;
-use text::line::Next;
-use text::line::Op;
-use text::line::next_line;
 ghost use mathlib.Core.Path.{_≡_};
-ghost use Prim.Native.Nat.{_*_, _≤_};
+ghost use mathlib.Core.List.{[]};
+ghost use Prim.Native.Nat.{_+_, _*_, _≤_, _<_, _^_};
 ghost use lib.ListN.{length};
 ghost use Rattle.layout.specs.Limits.{eventSize};
-ghost use Rattle.text.specs.Limits.{maxBytes};
-ghost use Rattle.play.specs.Pages.{pageBytes, Within, Roomy};
+ghost use Rattle.card.specs.declared.check.Verdict.the-variants as Verdict;
+ghost use Rattle.card.specs.Cards.{Checked};
+ghost use Rattle.play.specs.Output.{Stands};
+ghost use Rattle.play.specs.Steps.{Ready, SoFar, Begun, HandedOn, AllOf};
 
 // The largest store, the largest top cells and the largest trace of a card.
 pub struct Sizes {}
@@ -33,156 +37,99 @@ impl Sizes {
     pub const TRACE: usize = Store::EVENT * (Store::NODES - 1);
 }
 
-// What the heading lines say, and where the lines behind them begin.
-struct Heads {
-    vars: u32,
-    nodes: u32,
-    room: u32,
-    at: usize,
+// The output was handed on up to a place, or a write failed and errno says why.
+pub enum Handed {
+    To(usize),
+    Lost,
 }
 
-enum Headed {
-    Good(Heads),
-    Bad,
-}
-
-// The good line at a place.
-fn line_at(card: &[u8], at: usize) -> Next
-    ensures { λ r. ⌜ Within (length (now (card .entry))) at r ⌝ }
+// The only function that writes: the text, which stands in the card's output at the place from.
+fn hand(card: &[u8], from: usize, text: &[u8], fd: i32) -> Handed
+    requires { ⌜ Stands (now card) from (now text) × (from + length (now text) < 2 ^ 64) ⌝ }
+    ensures { λ r. ⌜ HandedOn (from + length (now (text .entry))) r ⌝ }
 {
-    if card.len() < at {
-        return Next::Bad;
+    if !io::write_all(fd, text) {
+        return Handed::Lost;
     }
-    next_line(&card[at..])
+    Handed::To(from + text.len())
 }
 
-fn read_heads(card: &[u8]) -> Headed
-    ensures { λ r. ⌜ Roomy (length (now (card .entry))) r ⌝ }
-{
-    let Next::Good(first, a) = line_at(card, 0) else {
-        return Headed::Bad;
-    };
-    let Line::Vars(vars) = first else {
-        return Headed::Bad;
-    };
-    let Next::Good(second, b) = line_at(card, a) else {
-        return Headed::Bad;
-    };
-    let Line::Nodes(nodes) = second else {
-        return Headed::Bad;
-    };
-    let Next::Good(third, c) = line_at(card, a + b) else {
-        return Headed::Bad;
-    };
-    let Line::Room(room) = third else {
-        return Headed::Bad;
-    };
-    Headed::Good(Heads {
-        vars,
-        nodes,
-        room,
-        at: a + b + c,
-    })
-}
-
-// The top values from a place on, as top cells; the answer is the place behind them.
-fn read_tops(card: &[u8], from: usize, tops: &mut [u8]) -> usize
-    requires { ⌜ from ≤ length (now card) ⌝ }
-    ensures { λ r. ⌜ r ≤ length (now (card .entry)) ⌝ }
-{
-    let mut at = from;
-    let mut x: usize = 0;
-    while x < tops.len() / Store::BARE {
-        let Next::Good(line, n) = line_at(card, at) else {
-            return at;
-        };
-        let Line::Top(cell) = line else {
-            return at;
-        };
-        put_top(tops, x, cell);
-        at += n;
-        x += 1;
-    }
-    at
-}
-
-// One operation: its line, and a line for each of its events.
-fn run_one(
-    number: u32,
-    op: Op,
-    store: &mut [u8],
-    trace: &mut [u8],
-    page: &mut [u8],
-    used: usize,
-    fd: i32,
-) -> usize
-    requires { ⌜ (length (now page) ≡ pageBytes) × (used ≤ pageBytes) ⌝ }
-    ensures { λ r. ⌜ r ≤ pageBytes ⌝ }
-{
-    let report = run(number, op, store, trace);
-    let events = report.events as usize;
-    let mark = put_report(report, page, used, fd);
-    put_events(trace, events, page, mark, fd)
-}
-
-// The operations from a place on.
-fn run_ops(card: &[u8], from: usize, store: &mut [u8], trace: &mut [u8], fd: i32)
-    requires { ⌜ (from ≤ length (now card)) × (length (now card) ≤ maxBytes) ⌝ }
+// What is printed from a beginning to the end, page by page.
+fn write_pages(start: Progress, card: &[u8], store: &mut [u8], trace: &mut [u8], fd: i32) -> Handed
+    requires { ⌜ Ready (now card) (now trace) start × SoFar (now card) [] start (now store) (now trace) ⌝ }
+    ensures { λ r. ⌜ AllOf (now (card .entry)) r ⌝ }
 {
     let mut page = [0u8; Page::BYTES];
-    let mut used: usize = 0;
-    let mut at = from;
-    let mut number: u32 = 0;
-    while at < card.len() {
-        let Next::Good(line, n) = line_at(card, at) else {
-            return;
+    let mut p = start;
+    let mut done: usize = 0;
+    while !is_ended(p, card) {
+        p = fill(p, card, store, trace, &mut page);
+        let used = p.used;
+        let Handed::To(next) = hand(card, done, &page[..used], fd) else {
+            return Handed::Lost;
         };
-        let Line::Do(op) = line else {
-            return;
-        };
-        number += 1;
-        used = run_one(number, op, store, trace, &mut page, used, fd);
-        at += n;
+        done = next;
     }
-    io::write_all(fd, &page[..used]);
+    Handed::To(done)
 }
 
 // The lines behind the headings, on lent buffers: the top values, the store as it is opened, the operations.
-fn run_in(heads: Heads, card: &[u8], tops: &mut [u8], store: &mut [u8], trace: &mut [u8], fd: i32)
-    requires { ⌜ (length (now card) ≤ maxBytes) × (heads .at ≤ length (now card)) ⌝ }
-    requires { ⌜ (5 * heads .vars ≤ length (now tops)) × (5 * heads .room ≤ length (now trace)) ⌝ }
+fn run_in(
+    heads: Heads,
+    card: &[u8],
+    tops: &mut [u8],
+    store: &mut [u8],
+    trace: &mut [u8],
+    fd: i32,
+) -> Handed
+    requires { ⌜ Begun (now card) heads (length (now tops)) (length (now store)) (length (now trace)) ⌝ }
+    ensures { λ r. ⌜ AllOf (now (card .entry)) r ⌝ }
 {
     let cells = Store::BARE * heads.vars as usize;
     let room = Store::EVENT * heads.room as usize;
     let at = read_tops(card, heads.at, &mut tops[..cells]);
     store::open(heads.vars, heads.nodes, &tops[..cells], store);
-    run_ops(card, at, store, &mut trace[..room], fd);
+    let start = Progress {
+        at,
+        number: 0,
+        told: 0,
+        left: 0,
+        used: 0,
+    };
+    write_pages(start, card, store, &mut trace[..room], fd)
 }
 
 // A good card, run on buffers that are large enough for any.
-fn run_card(card: &[u8], fd: i32)
-    requires { ⌜ length (now card) ≤ maxBytes ⌝ }
+fn run_card(card: &[u8], fd: i32) -> Handed
+    requires { ⌜ Checked (now card) Verdict.Good ⌝ }
+    ensures { λ r. ⌜ AllOf (now (card .entry)) r ⌝ }
 {
     let Headed::Good(heads) = read_heads(card) else {
-        return;
+        return Handed::Lost;
     };
     let mut tops = [0u8; Sizes::TOPS];
     let mut store = [0u8; Sizes::STORE];
     let mut trace = [0u8; Sizes::TRACE];
-    run_in(heads, card, &mut tops, &mut store, &mut trace, fd);
+    run_in(heads, card, &mut tops, &mut store, &mut trace, fd)
 }
 
 // The one line of a card that is no good.
-fn refuse(line: u32, fd: i32) {
+fn refuse(card: &[u8], line: u32, fd: i32) -> Handed
+    requires { ⌜ Checked (now card) (Verdict.Bad line) ⌝ }
+    ensures { λ r. ⌜ AllOf (now (card .entry)) r ⌝ }
+{
     let mut text = [0u8; Print::LINE];
     let n = put_bad(line, &mut text);
-    io::write_all(fd, &text[..n]);
+    hand(card, 0, &text[..n], fd)
 }
 
-// The card is checked as a whole before anything is run.
-pub fn play(card: &[u8], fd: i32) {
+// The card is checked as a whole before anything is run. Nothing more is written behind a write that failed.
+pub fn play(card: &[u8], fd: i32) -> Handed
+    ensures { λ r. ⌜ AllOf (now (card .entry)) r ⌝ }
+    ensures { λ _. ⌜ now (card .exit) ≡ now (card .entry) ⌝ }
+{
     match check(card) {
         Verdict::Good => run_card(card, fd),
-        Verdict::Bad(line) => refuse(line, fd),
+        Verdict::Bad(line) => refuse(card, line, fd),
     }
 }

@@ -1,4 +1,4 @@
-// A page of printed lines that is not yet written: it is written out when a further line might not fit.
+// A page of printed lines: each put_ function puts one line behind a place, and answers the place behind the line.
 use layout::Store;
 use print::Print;
 use print::Report;
@@ -8,7 +8,10 @@ ghost use mathlib.Core.Path.{_≡_};
 ghost use Prim.Native.Nat.{_+_, _*_, _≤_};
 ghost use lib.ListN.{length};
 ghost use Rattle.layout.specs.Limits.{eventSize};
-ghost use Rattle.play.specs.Pages.{pageBytes, longest};
+ghost use Rattle.layout.specs.Bytes.{part};
+ghost use Rattle.print.specs.Printed.{opLine, longest};
+ghost use Rattle.print.specs.Writing.{Wrote};
+ghost use Rattle.play.specs.Output.{eventText};
 
 pub(crate) struct Page {}
 
@@ -16,87 +19,50 @@ impl Page {
     pub const BYTES: usize = 4_096;
 }
 
-// The bytes of line, at a place.
-fn copy(line: &[u8], page: &mut [u8], at: usize)
-    requires { ⌜ at + length (now line) ≤ length (now page) ⌝ }
+// The bytes of text, at a place; the answer is the place behind them.
+fn copy(text: &[u8], page: &mut [u8], at: usize) -> usize
+    requires { ⌜ at + length (now text) ≤ length (now page) ⌝ }
+    ensures { λ r. ⌜ Wrote (now (page .entry)) at (now (text .entry)) (now (page .exit)) r ⌝ }
 {
     let mut i: usize = 0;
-    while i < line.len() {
-        page[at + i] = line[i];
+    let mut p = at;
+    while i < text.len() {
+        page[p] = text[i];
+        p += 1;
         i += 1;
     }
+    p
 }
 
-// The mark from which there is room for a line.
-fn make_room(page: &[u8], used: usize, fd: i32) -> usize
-    requires { ⌜ (length (now page) ≡ pageBytes) × (used ≤ pageBytes) ⌝ }
-    ensures { λ r. ⌜ r + longest ≤ pageBytes ⌝ }
+// The bytes of the event i of the trace.
+fn event_at(trace: &[u8], i: usize) -> [u8; Store::EVENT]
+    requires { ⌜ eventSize * i + eventSize ≤ length (now trace) ⌝ }
+    ensures { λ r. ⌜ r ≡ part (now (trace .entry)) (eventSize * i) eventSize ⌝ }
 {
-    if Page::BYTES - Print::LINE < used {
-        io::write_all(fd, &page[..used]);
-        return 0;
-    }
-    used
-}
-
-// A line behind the others; none is longer than its buffer.
-fn put_line(line: &[u8], page: &mut [u8], used: usize, fd: i32) -> usize
-    requires { ⌜ (length (now page) ≡ pageBytes) × (used ≤ pageBytes) ⌝ }
-    ensures { λ r. ⌜ r ≤ pageBytes ⌝ }
-{
-    if Print::LINE < line.len() {
-        return used;
-    }
-    let at = make_room(page, used, fd);
-    copy(line, page, at);
-    at + line.len()
+    let mut event = [0u8; Store::EVENT];
+    let a = Store::EVENT * i;
+    let e = a + Store::EVENT;
+    copy(&trace[a..e], &mut event, 0);
+    event
 }
 
 // The line of one operation.
-pub(crate) fn put_report(report: Report, page: &mut [u8], used: usize, fd: i32) -> usize
-    requires { ⌜ (length (now page) ≡ pageBytes) × (used ≤ pageBytes) ⌝ }
-    ensures { λ r. ⌜ r ≤ pageBytes ⌝ }
+pub(crate) fn put_report(report: Report, page: &mut [u8], at: usize) -> usize
+    requires { ⌜ at + longest ≤ length (now page) ⌝ }
+    ensures { λ r. ⌜ Wrote (now (page .entry)) at (opLine report) (now (page .exit)) r ⌝ }
 {
     let mut line = [0u8; Print::LINE];
     let n = put_op(report, &mut line);
-    put_line(&line[..n], page, used, fd)
+    copy(&line[..n], page, at)
 }
 
-// The line of the event at a place of the trace.
-fn put_one(trace: &[u8], at: usize, page: &mut [u8], used: usize, fd: i32) -> usize
-    requires { ⌜ at + eventSize ≤ length (now trace) ⌝ }
-    requires { ⌜ (length (now page) ≡ pageBytes) × (used ≤ pageBytes) ⌝ }
-    ensures { λ r. ⌜ r ≤ pageBytes ⌝ }
+// The line of the event i of the trace.
+pub(crate) fn put_told(trace: &[u8], i: usize, page: &mut [u8], at: usize) -> usize
+    requires { ⌜ (eventSize * i + eventSize ≤ length (now trace)) × (at + longest ≤ length (now page)) ⌝ }
+    ensures { λ r. ⌜ Wrote (now (page .entry)) at (eventText (part (now (trace .entry)) (eventSize * i) eventSize)) (now (page .exit)) r ⌝ }
 {
-    let event = layout::event_in([
-        trace[at],
-        trace[at + 1],
-        trace[at + 2],
-        trace[at + 3],
-        trace[at + 4],
-    ]);
+    let event = layout::event_in(event_at(trace, i));
     let mut line = [0u8; Print::LINE];
     let n = put_event(event.entering, event.thunk, event.place as u32, &mut line);
-    put_line(&line[..n], page, used, fd)
-}
-
-// The lines of the events that a call wrote.
-pub(crate) fn put_events(
-    trace: &[u8],
-    events: usize,
-    page: &mut [u8],
-    used: usize,
-    fd: i32,
-) -> usize
-    requires { ⌜ events * eventSize ≤ length (now trace) ⌝ }
-    requires { ⌜ (length (now page) ≡ pageBytes) × (used ≤ pageBytes) ⌝ }
-    ensures { λ r. ⌜ r ≤ pageBytes ⌝ }
-{
-    let mut i: usize = 0;
-    let mut mark = used;
-    while i < events {
-        mark = put_one(trace, Store::EVENT * i, page, mark, fd);
-        i += 1;
-    }
-    mark
+    copy(&line[..n], page, at)
 }

@@ -53,3 +53,7 @@ eventLine entering thunk place = field (kindText entering) thunk ++ field (bytes
 -- the one line of a card that is no good: its first bad line, and the number for that
 unfoldable pub badLine : ℕ → List ℕ
 badLine n = field (bytes "line=") n ++ (field (bytes " code=") noLine ++ bytes "\n")
+
+-- no line has more bytes
+abbrev pub longest : ℕ
+longest = 96

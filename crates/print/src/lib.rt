@@ -8,7 +8,7 @@ ghost use Prim.Native.Nat.{_+_, _≤_};
 ghost use mathlib.Core.List.{_++_};
 ghost use lib.ListN.{length};
 ghost use Rattle.text.specs.Decimal.{decimal};
-ghost use Rattle.print.specs.Printed.{field, outText, byOf, byText, kindText, opLine, eventLine, badLine};
+ghost use Rattle.print.specs.Printed.{field, outText, byOf, byText, kindText, opLine, eventLine, badLine, longest};
 ghost use Rattle.print.specs.Writing.{Wrote};
 
 // The longest line.
@@ -73,6 +73,7 @@ fn put_out(o: Out, out: &mut [u8], at: usize) -> usize
 fn put_by(o: Out, out: &mut [u8], at: usize) -> usize
     requires { ⌜ at + 15 ≤ length (now out) ⌝ }
     ensures { λ r. ⌜ Wrote (now (out .entry)) at (byText (byOf o)) (now (out .exit)) r ⌝ }
+    ensures { λ r. ⌜ r ≤ at + 15 ⌝ }
 {
     match o {
         Out::None => put_text(b" by=none\n", out, at),
@@ -87,6 +88,7 @@ fn put_by(o: Out, out: &mut [u8], at: usize) -> usize
 // The line of one operation.
 pub fn put_op(report: Report, out: &mut [u8; Print::LINE]) -> usize
     ensures { λ r. ⌜ Wrote (now (out .entry)) 0 (opLine report) (now (out .exit)) r ⌝ }
+    ensures { λ r. ⌜ r ≤ longest ⌝ }
 {
     let o = report.out;
     let a = put_field(b"op=", report.op, out, 0);
@@ -101,6 +103,7 @@ pub fn put_op(report: Report, out: &mut [u8; Print::LINE]) -> usize
 // The line of one trace event: the thunk entered or left, and its place.
 pub fn put_event(entering: bool, thunk: u16, place: u32, out: &mut [u8; Print::LINE]) -> usize
     ensures { λ r. ⌜ Wrote (now (out .entry)) 0 (eventLine entering thunk place) (now (out .exit)) r ⌝ }
+    ensures { λ r. ⌜ r ≤ longest ⌝ }
 {
     let a = put_kind(entering, thunk as u32, out);
     let b = put_field(b"@", place, out, a);
@@ -110,6 +113,7 @@ pub fn put_event(entering: bool, thunk: u16, place: u32, out: &mut [u8; Print::L
 // The one line of a card that is no good: its first bad line, and the answer number for that.
 pub fn put_bad(line: u32, out: &mut [u8; Print::LINE]) -> usize
     ensures { λ r. ⌜ Wrote (now (out .entry)) 0 (badLine line) (now (out .exit)) r ⌝ }
+    ensures { λ r. ⌜ r ≤ longest ⌝ }
 {
     let a = put_field(b"line=", line, out, 0);
     put_text(b" code=9\n", out, a)

@@ -1,4 +1,4 @@
--- `play::play` is safe and ends. Assumes nothing.
+-- `play::play` meets its contract. Assumes nothing.
 use mathlib.Core.Path.{refl}
 use borrow.Author.Needs.{needs}
 use Rattle.play.proofs.play.Statement.{statement}
@@ -11,19 +11,19 @@ enum-told : tie.Need-enum-told
 enum-told c = search needs
 
 run-card-requires : tie.Need-run-card-requires
-run-card-requires c κs = (rw (c .enum-told .given .1) at (c .before .before .check .ensures .0)) .good refl .0
+run-card-requires c κs = (rw (c .enum-told .given .1) at (c .before .before .check .ensures .0)) .good refl
 
 enum-known-line : tie.Need-enum-known-line
 enum-known-line c = search needs
 
 refuse-requires : tie.Need-refuse-requires
-refuse-requires c κs = search needs
+refuse-requires c κs = rw (c .before .line .given .1) at (c .before .before .before .check .ensures)
 
 returns : tie.Need-returns
-returns c = search needs
+returns c = (c .run-card .ensures, refl)
 
 returns-2 : tie.Need-returns-2
-returns-2 c = search needs
+returns-2 c = (c .refuse .ensures, refl)
 
 pub play-spec : {M : Type 1} → statement M
 play-spec =

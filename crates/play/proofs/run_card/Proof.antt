@@ -1,5 +1,6 @@
--- `play::run_card` is safe and ends. Assumes nothing.
+-- `play::run_card` meets its contract. Assumes nothing.
 use native.Mathlib.Omega.{arith}
+use Rattle.play.proofs.Beginning.{heads-begun}
 use borrow.Author.Needs.{needs}
 use Rattle.play.proofs.run_card.Statement.{statement}
 use Rattle.play.proofs.run_card.Tie as tie
@@ -26,12 +27,10 @@ slice-aggregate-run-in-3 : tie.Need-slice-aggregate-run-in-3
 slice-aggregate-run-in-3 c = search needs
 
 run-in-requires : tie.Need-run-in-requires
-run-in-requires c κs =
-    let h = rw (c .before .before .before .before .heads .given .1) at (c .before .before .before .before .before .before .read-heads .ensures) in
-    ((search needs, h .2), (omega (arith, h .0), omega (arith, h .1)))
+run-in-requires c κs = heads-begun (c .before .before .before .before .before .before .before .before .pre) (c .before .before .before .before .before .before .read-heads .result) _ (c .before .before .before .before .heads .given .1) (c .before .before .before .before .before .before .read-heads .ensures) _ _ _ (omega arith) (omega arith) (omega arith)
 
 returns-2 : tie.Need-returns-2
-returns-2 c = search needs
+returns-2 c = c .before .before .before .run-in .ensures
 
 pub run-card-spec : {M : Type 1} → statement M
 run-card-spec =

@@ -20,7 +20,7 @@ put-text-requires c κs = search needs
 
 returns : tie.Need-returns
 unfolding badLine decimal tens
-returns c = wrote-more (search needs) (c .before .before .before .put-field .ensures .0) (c .put-text .ensures)
+returns c = (wrote-more (search needs) (c .before .before .before .put-field .ensures .0) (c .put-text .ensures), search needs)
 
 pub put-bad-spec : {M : Type 1} → statement M
 put-bad-spec =

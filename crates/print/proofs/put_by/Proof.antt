@@ -51,19 +51,19 @@ same-length : tie.Need-same-length
 same-length c = search needs
 
 returns : tie.Need-returns
-returns c = reworded (ap text (sym (c .before .before .before .before .before .enum-told .given .1))) (c .before .before .put-text .ensures)
+returns c = (reworded (ap text (sym (c .before .before .before .before .before .enum-told .given .1))) (c .before .before .put-text .ensures), search needs)
 
 same-length-2 : tie.Need-same-length-2
 same-length-2 c = search needs
 
 returns-2 : tie.Need-returns-2
-returns-2 c = reworded (ap text (sym (c .before .before .before .before .before .enum-told2 .given .1))) (c .before .before .put-text2 .ensures)
+returns-2 c = (reworded (ap text (sym (c .before .before .before .before .before .enum-told2 .given .1))) (c .before .before .put-text2 .ensures), search needs)
 
 same-length-3 : tie.Need-same-length-3
 same-length-3 c = search needs
 
 returns-3 : tie.Need-returns-3
-returns-3 c = reworded (ap text (sym (c .before .before .before .before .before .before .before .before .before .before .before .o .given .1))) (wrote-more (search needs) (c .before .before .before .before .before .before .before .put-field .ensures .0) (c .before .before .put-text3 .ensures))
+returns-3 c = (reworded (ap text (sym (c .before .before .before .before .before .before .before .before .before .before .before .o .given .1))) (wrote-more (search needs) (c .before .before .before .before .before .before .before .put-field .ensures .0) (c .before .before .put-text3 .ensures)), search needs)
 
 pub put-by-spec : {M : Type 1} → statement M
 put-by-spec =

@@ -22,7 +22,7 @@ put-text-requires c κs = search needs
 
 returns : tie.Need-returns
 unfolding eventLine
-returns c = wrote-more (search needs) (wrote-more (search needs) (c .before .before .before .before .before .before .put-kind .ensures .0) (c .before .before .before .put-field .ensures .0)) (c .put-text .ensures)
+returns c = (wrote-more (search needs) (wrote-more (search needs) (c .before .before .before .before .before .before .put-kind .ensures .0) (c .before .before .before .put-field .ensures .0)) (c .put-text .ensures), search needs)
 
 pub put-event-spec : {M : Type 1} → statement M
 put-event-spec =

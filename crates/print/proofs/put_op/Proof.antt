@@ -47,7 +47,7 @@ returns c =
     let w = wrote-more (search needs) (c .before .before .before .before .before .before .before .before .before .before .before .before .before .before .before .before .put-field .ensures .0) (c .before .before .before .before .before .before .before .before .before .before .before .before .before .put-field2 .ensures .0) in
     let x = wrote-more (search needs) (wrote-more (search needs) w (c .before .before .before .before .before .before .before .before .before .before .put-text .ensures)) (c .before .before .before .before .before .before .before .before .put-out .ensures .0) in
     let y = wrote-more (search needs) (wrote-more (search needs) x (c .before .before .before .before .before .put-field3 .ensures .0)) (c .before .before .put-field4 .ensures .0) in
-    wrote-more (search needs) y (c .put-by .ensures)
+    (wrote-more (search needs) y (c .put-by .ensures .0), search needs)
 
 pub put-op-spec : {M : Type 1} → statement M
 put-op-spec =

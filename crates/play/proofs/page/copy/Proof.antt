@@ -1,28 +1,36 @@
--- `play::page::copy` is safe and ends. Assumes nothing.
-use mathlib.Core.Path.{_≡_}
-use Prim.Native.Nat.{_≤_, _-_}
-use lib.ListN.{length, length-set}
+-- `play::page::copy` meets its contract. The loop's invariant: what is written and what is still to be written make the whole. Assumes nothing.
 use borrow.Author.Needs.{needs}
+use mathlib.Core.Path.{_≡_, refl, _∙_}
+use Prim.Native.Nat.{ℕ, _+_, _-_, _<_, _≤_}
+use mathlib.Core.List.{List}
+use native.Mathlib.Numerals.{add-one}
+use lib.ListN.{length, getD, drop, set, length-set, drop-of-length-le}
+use lib.Seq.{drop-cons}
+use Rattle.print.proofs.Buffer.{ahead, stored, closed}
 use Rattle.play.proofs.page.copy.Statement.{statement}
 use Rattle.play.proofs.page.copy.Tie as tie
 
+one-more : (page text : List ℕ) (i p : ℕ) → i < length text → p < length page →
+    ahead (set page p (getD text i 0)) (drop (i + 1) text) (p + 1) ≡ ahead page (drop i text) p
+one-more page text i p h q = rw (add-one i, drop-cons text i 0 h) (stored page (getD text i 0) (drop (ℕ.suc i) text) p q)
+
 abbrev Inv-loop : tie.InvT-loop
-Inv-loop line page₀ at i₀ page i = (i ≤ length line) × (length page ≡ length page₀)
+Inv-loop text page₀ at i₀ p₀ page i p = (i ≤ length text) × (p ≡ at + i) × (length page ≡ length page₀) × (ahead page (drop i text) p ≡ ahead page₀ text at)
 
 abbrev μ-loop : tie.MeasureT-loop
-μ-loop line page₀ at i₀ page i = length line - i
+μ-loop text page₀ at i₀ p₀ page i p = length text - i
 
 loop-holds : tie.Need-loop-holds Inv-loop μ-loop
-loop-holds c = search needs
+loop-holds c = (search needs, search needs, refl, refl)
 
 shared-slice-read-page : tie.Need-shared-slice-read-page Inv-loop μ-loop
 shared-slice-read-page c = search needs
 
-add-page : tie.Need-add-page Inv-loop μ-loop
-add-page c = search needs
-
 slice-write-page : tie.Need-slice-write-page Inv-loop μ-loop
 slice-write-page c = search needs
+
+add-p : tie.Need-add-p Inv-loop μ-loop
+add-p c = search needs
 
 add-i : tie.Need-add-i Inv-loop μ-loop
 add-i c = search needs
@@ -31,13 +39,18 @@ loop-less : tie.Need-loop-less Inv-loop μ-loop
 loop-less c = search needs
 
 loop-again : tie.Need-loop-again Inv-loop μ-loop
-loop-again c = (search needs, simp length-set (c .before .before .loop .inv .1))
+loop-again c = (
+  search needs,
+  search needs,
+  simp length-set (c .before .before .loop .inv .2),
+  one-more (c .before .before .loop .page) (c .before .before .before .args .text .now) (c .before .before .loop .i) (c .before .before .loop .p) (c .before .loop-test .taken) (search needs) ∙ c .before .before .loop .inv .3,
+)
 
 same-length : tie.Need-same-length Inv-loop μ-loop
-same-length c = c .before .loop .inv .1
+same-length c = c .before .loop .inv .2
 
 returns : tie.Need-returns Inv-loop μ-loop
-returns c = search needs
+returns c = closed (c .before .loop .p) (search needs) (rw (drop-of-length-le (c .before .before .args .text .now) (c .loop-test .left)) at (c .before .loop .inv .3))
 
 pub copy-spec : {M : Type 1} → statement M
 copy-spec =
@@ -47,8 +60,8 @@ copy-spec =
     μ-loop
     loop-holds
     shared-slice-read-page
-    add-page
     slice-write-page
+    add-p
     add-i
     loop-less
     loop-again

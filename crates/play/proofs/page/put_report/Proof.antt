@@ -1,5 +1,7 @@
 -- `play::page::put_report` meets its contract. Assumes nothing.
-use Rattle.play.specs.Pages.{ends-within, line-long}
+use native.Mathlib.Omega.{arith}
+use Rattle.print.proofs.Buffer.{reworded}
+use Rattle.play.proofs.Texts.{ends-within, line-long, front}
 use borrow.Author.Needs.{needs}
 use Rattle.play.proofs.page.put_report.Statement.{statement}
 use Rattle.play.proofs.page.put_report.Tie as tie
@@ -8,19 +10,19 @@ put-op-requires : tie.Need-put-op-requires
 put-op-requires c κs = search needs
 
 array-share-prefix-line : tie.Need-array-share-prefix-line
-array-share-prefix-line c = ends-within (c .put-op .ensures)
+array-share-prefix-line c = ends-within (c .put-op .ensures .0)
 
-slice-aggregate-put-line : tie.Need-slice-aggregate-put-line
-slice-aggregate-put-line c = line-long (c .before .put-op .ensures)
+slice-aggregate-copy : tie.Need-slice-aggregate-copy
+slice-aggregate-copy c = line-long (c .before .put-op .ensures .0)
 
-put-line-requires : tie.Need-put-line-requires
-put-line-requires c κs = search needs
+copy-requires : tie.Need-copy-requires
+copy-requires c κs = omega (arith, line-long (c .before .before .put-op .ensures .0), c .before .before .put-op .ensures .1)
 
 same-length : tie.Need-same-length
 same-length c = search needs
 
 returns : tie.Need-returns
-returns c = search needs
+returns c = reworded (front (c .before .before .before .before .before .put-op .ensures .0)) (c .before .before .copy .ensures)
 
 pub put-report-spec : {M : Type 1} → statement M
 put-report-spec =
@@ -28,7 +30,7 @@ put-report-spec =
     (tie.spec
     put-op-requires
     array-share-prefix-line
-    slice-aggregate-put-line
-    put-line-requires
+    slice-aggregate-copy
+    copy-requires
     same-length
     returns)

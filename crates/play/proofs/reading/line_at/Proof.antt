@@ -1,11 +1,11 @@
--- `play::line_at` meets its contract. Assumes nothing.
-use Rattle.play.proofs.Places.{there}
+-- `play::reading::line_at` meets its contract. Assumes nothing.
+use Rattle.play.proofs.Lines.{there, past}
 use borrow.Author.Needs.{needs}
-use Rattle.play.proofs.line_at.Statement.{statement}
-use Rattle.play.proofs.line_at.Tie as tie
+use Rattle.play.proofs.reading.line_at.Statement.{statement}
+use Rattle.play.proofs.reading.line_at.Tie as tie
 
 returns : tie.Need-returns
-returns c = search needs
+returns c = past (c .before .before .args .card .now) (c .before .before .args .at) (c .if1 .taken)
 
 sub-next-line : tie.Need-sub-next-line
 sub-next-line c = search needs
@@ -20,7 +20,7 @@ next-line-requires : tie.Need-next-line-requires
 next-line-requires c κs = search needs
 
 returns-2 : tie.Need-returns-2
-returns-2 c = there (c .before .before .before .before .args .card .now) (c .before .before .before .before .args .at) (search needs) (c .next-line .result) (c .next-line .ensures .0)
+returns-2 c = there (c .before .before .before .before .args .card .now) (c .before .before .before .before .args .at) (c .next-line .result) (c .next-line .ensures .0)
 
 pub line-at-spec : {M : Type 1} → statement M
 line-at-spec =

@@ -1,0 +1,2 @@
+-- What reading into a buffer gives.
+pub mod Input
