@@ -41,7 +41,11 @@ pub(crate) const BROKEN: usize = 15;
 
 pub(crate) const CHANGED: usize = 16;
 
-pub(crate) const COUNTS: usize = 17;
+pub(crate) const OWN_LOW: usize = 17;
+
+pub(crate) const OWN_HIGH: usize = 18;
+
+pub(crate) const COUNTS: usize = 19;
 
 pub(crate) fn count(c: &mut [usize; COUNTS], i: usize, n: usize) {
     if i < COUNTS {

@@ -234,6 +234,15 @@ fn trace(kind: usize, g: usize, need: usize) -> usize {
     place(over, Store::EVENT, need - 1)
 }
 
+// A thunk's number: any, or one at the ends of the range.
+fn thunk(g: usize) -> usize {
+    match draw(g, 4) {
+        0 => 0,
+        1 => 65_535,
+        _ => draw(next(g), 65_536),
+    }
+}
+
 // The numbers of the operation `what`; the last arm's are a wind's, and nothing's to the rest.
 fn numbers(kind: usize, g: usize, m: &[usize; SPACE], what: u8) -> Op {
     let g2 = next(g);
@@ -245,7 +254,7 @@ fn numbers(kind: usize, g: usize, m: &[usize; SPACE], what: u8) -> Op {
         b'l' => made_op(what, x, 0),
         b'g' => made_op(what, a, 0),
         b'p' => made_op(what, a, x),
-        _ => made_op(what, draw(g2, 65_536), draw(g3, 65_536)),
+        _ => made_op(what, thunk(g2), thunk(next(g3))),
     }
 }
 
@@ -358,6 +367,11 @@ pub(crate) fn cut_len(g: usize, size: usize) -> usize {
         2 => draw(next(next(g)), 9),
         _ => std::num::wrapping_sub_usize(size, 1),
     }
+}
+
+// Some number from `low` on, before `end` where there is one.
+pub(crate) fn between(g: usize, low: usize, end: usize) -> usize {
+    plus(low, draw(g, std::num::wrapping_sub_usize(end, low)))
 }
 
 // The generator's state for the next operation.

@@ -58,6 +58,17 @@ fn refusals(c: &[usize; compare::COUNTS]) {
     }
 }
 
+fn own_parents(c: &[usize; compare::COUNTS]) {
+    say::line(
+        b"own parents up to 255 refused",
+        compare::counted(c, compare::OWN_LOW),
+    );
+    say::line(
+        b"own parents above 255 refused",
+        compare::counted(c, compare::OWN_HIGH),
+    );
+}
+
 fn main() {
     let mut c = [0usize; compare::COUNTS];
     if !all(&mut c) {
@@ -77,4 +88,5 @@ fn main() {
         b"changed stores still sound",
         compare::counted(&c, compare::CHANGED),
     );
+    own_parents(&c);
 }

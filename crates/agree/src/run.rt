@@ -7,10 +7,13 @@ use crate::buffer::fill;
 use crate::buffer::holds;
 use crate::buffer::plus;
 use crate::buffer::poke;
+use crate::buffer::spell16;
 use crate::compare::BROKEN;
 use crate::compare::CHANGED;
 use crate::compare::COUNTS;
 use crate::compare::MANY;
+use crate::compare::OWN_HIGH;
+use crate::compare::OWN_LOW;
 use crate::compare::REFUSAL;
 use crate::compare::SEQUENCES;
 use crate::compare::SIZES;
@@ -99,7 +102,8 @@ fn refuses(what: u8, g: usize, s: &mut [u8], t: &mut [u8]) -> bool {
     ask::agree(ask::of_store(o, s, t), model::refused(2))
 }
 
-const CALLS: [u8; 8] = *b"bwlshgkp";
+// Here first: it climbs from the focus alone, so that it answers where another call might run on and on.
+const CALLS: [u8; 8] = *b"hbwlsgkp";
 
 fn call_at(i: usize) -> u8 {
     CALLS[i % 8]
@@ -179,6 +183,97 @@ fn damage(
     }
     count(c, BROKEN, 1);
     broken(g, at, n, s, w, m)
+}
+
+// ---- a node that is its own parent
+
+// The first node from `from` on, before `end`, that is out (mode 0) or in (mode 1); 0 where there is none.
+fn seek(w: &[u8], v: usize, mode: usize, from: usize, end: usize) -> usize {
+    let mut n = from;
+    while n < end {
+        if byte(w, image::node_at(v, n)) % 2 == mode {
+            return n;
+        }
+        n += 1;
+    }
+    0
+}
+
+// The same from a drawn node on; where there is none, from `low` on.
+fn some_node(g: usize, w: &[u8], v: usize, mode: usize, low: usize, end: usize) -> usize {
+    let n = seek(w, v, mode, draw::between(g, low, end), end);
+    if n == 0 {
+        seek(w, v, mode, low, end)
+    } else {
+        n
+    }
+}
+
+// The node n is its own parent, in s and in its image w: every call refuses. Then it has its parent again.
+fn own_parent(
+    loud: bool,
+    g: usize,
+    n: usize,
+    s: &mut [u8],
+    w: &mut [u8],
+    m: &[usize; SPACE],
+    c: &mut [usize; COUNTS],
+) -> usize {
+    let at = plus(image::node_at(model::head(m, VARS), n), 2);
+    if loud {
+        say::line(b"its own parent: node", n);
+    }
+    spell16(s, at, n);
+    spell16(w, at, n);
+    if !all_refuse(g, s, w) {
+        return REFUSAL;
+    }
+    count(c, if n < 256 { OWN_LOW } else { OWN_HIGH }, 1);
+    spell16(s, at, model::up(m, n));
+    spell16(w, at, model::up(m, n));
+    0
+}
+
+// A node from `low` on, before `end`, that is off the focus's path, and then one on it.
+fn off_and_on(
+    loud: bool,
+    g: usize,
+    low: usize,
+    end: usize,
+    s: &mut [u8],
+    w: &mut [u8],
+    m: &[usize; SPACE],
+    c: &mut [usize; COUNTS],
+) -> usize {
+    let v = model::head(m, VARS);
+    let off = some_node(g, w, v, 0, low, end);
+    if off == 0 {
+        return 0;
+    }
+    let found = own_parent(loud, g, off, s, w, m, c);
+    let on = some_node(g, w, v, 1, low, end);
+    if found != 0 || on == 0 {
+        return found;
+    }
+    own_parent(loud, g, on, s, w, m, c)
+}
+
+// Nodes up to 255, and nodes above.
+fn own_parents(
+    loud: bool,
+    g: usize,
+    s: &mut [u8],
+    w: &mut [u8],
+    m: &[usize; SPACE],
+    c: &mut [usize; COUNTS],
+) -> usize {
+    let made = model::head(m, MADE);
+    let low = if made < 256 { made } else { 256 };
+    let found = off_and_on(loud, g, 1, low, s, w, m, c);
+    if found != 0 {
+        return found;
+    }
+    off_and_on(loud, g, 256, made, s, w, m, c)
 }
 
 // A cell of the store that has no value any more: a variable's, or the one that a node stores. The store stays sound.
@@ -342,20 +437,23 @@ fn step(
     }
 }
 
-// After the step i: every byte of the store and the values; of a larger store every sixteenth time.
+// After the step i: every byte of the store and the values; of a larger store every sixteenth time, and own parents.
 fn after(
     loud: bool,
     i: usize,
     g: usize,
-    s: &[u8],
+    s: &mut [u8],
     w: &mut [u8],
     m: &[usize; SPACE],
     c: &mut [usize; COUNTS],
 ) -> usize {
-    if SMALL < s.len() && i % 16 != 0 {
+    if s.len() <= SMALL {
+        return all_agrees(loud, g, SOME, s, w, m, c);
+    }
+    if i % 16 != 0 {
         return 0;
     }
-    all_agrees(loud, g, SOME, s, w, m, c)
+    looked_over(loud, g, SOME, s, w, m, c)
 }
 
 fn turn(
@@ -395,7 +493,24 @@ fn turns(
         g = draw::skip(g);
         i += 1;
     }
-    all_agrees(loud, g, MANY, s, w, m, c)
+    looked_over(loud, g, MANY, s, w, m, c)
+}
+
+// All that is compared, then own parents.
+fn looked_over(
+    loud: bool,
+    g: usize,
+    spots: usize,
+    s: &mut [u8],
+    w: &mut [u8],
+    m: &[usize; SPACE],
+    c: &mut [usize; COUNTS],
+) -> usize {
+    let found = all_agrees(loud, g, spots, s, w, m, c);
+    if found != 0 {
+        return found;
+    }
+    own_parents(loud, g, s, w, m, c)
 }
 
 fn played(

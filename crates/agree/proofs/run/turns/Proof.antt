@@ -41,8 +41,8 @@ loop-less c = search needs
 loop-again : tie.Need-loop-again Inv-loop μ-loop
 loop-again c = search needs
 
-all-agrees-requires : tie.Need-all-agrees-requires Inv-loop μ-loop
-all-agrees-requires c κs = search needs
+looked-over-requires : tie.Need-looked-over-requires Inv-loop μ-loop
+looked-over-requires c κs = search needs
 
 same-length-3 : tie.Need-same-length-3 Inv-loop μ-loop
 same-length-3 c = search needs
@@ -69,7 +69,7 @@ turns-spec =
     add-i
     loop-less
     loop-again
-    all-agrees-requires
+    looked-over-requires
     same-length-3
     same-length-4
     returns-2)
