@@ -1,8 +1,9 @@
 -- A heading line, what may follow it, and the verdict on the whole card. Assumes nothing.
 use mathlib.Core.Path.{_≡_, refl, sym, ap, subst, _∙_}
+use mathlib.Core.Logic.{inl, inr}
 use mathlib.Core.Option.{none, some}
 use mathlib.Core.List.{List, [], _∷_}
-use Prim.Native.Nat.{ℕ, zero, suc, _+_, _≤_}
+use Prim.Native.Nat.{ℕ, zero, suc, _+_, _≤_, _<_}
 use native.Mathlib.Omega.{arith}
 use lib.ListN.{length, drop}
 use Rattle.text.specs.declared.line.Line.{Line}
@@ -13,7 +14,7 @@ use Rattle.text.specs.Limits.{maxBytes}
 use Rattle.text.specs.Lines.{InRange, Leads}
 use Rattle.card.specs.declared.check.Verdict.{Verdict}
 use Rattle.card.specs.declared.check.Verdict.the-variants.{Good, Bad}
-use Rattle.card.specs.Cards.{Whole, Checked, Breaks}
+use Rattle.card.specs.Cards.{Whole, Breaks, ruling, Checked}
 use Rattle.card.specs.Judging.{Judged, Headed, Roomed, Noded}
 use Rattle.card.proofs.Rest.{head-is, tail-is, step, judged-iff, no-line, other-line, body-some}
 
@@ -110,14 +111,17 @@ from-whole ls w =
       };
     }
 
--- the verdict on the whole card, which is not too long
-pub checked : {s : List ℕ} (r : Verdict) → length s ≤ maxBytes → Judged (Headed Vars Noded) s 0 r → Checked s r
+-- the verdict on the whole card: it is too long, or not
+pub too-long : {s : List ℕ} → maxBytes < length s → Checked s (ruling (Bad 0))
+too-long {s} h = record { known = inr refl; good = λ e. absurd (omega (arith, e)); bad = λ e. h }
+
+pub checked : {s : List ℕ} (r : Verdict) → length s ≤ maxBytes → Judged (Headed Vars Noded) s 0 r → Checked s (ruling r)
 checked {s} r h j = go r (judged-iff to-whole from-whole j)
   where
-    go : (r : Verdict) → Judged Whole s 0 r → Checked s r
-    go Good j = (h, j .good refl)
+    go : (r : Verdict) → Judged Whole s 0 r → Checked s (ruling r)
+    go Good j = record { known = inl refl; good = λ e. (h, j .good refl); bad = λ e. absurd (omega (arith, e)) }
     go (Bad zero) j = absurd (omega (arith, j .bad zero refl .1))
     go (Bad (suc n)) j =
         let b = j .bad (suc n) refl in
         let e : b .0 ≡ n = omega (arith, b .1) in
-        (h, subst (Breaks Whole s) e (b .2))
+        record { known = inr refl; good = λ z. absurd (omega (arith, z)); bad = λ z. (h, subst (Breaks Whole s) e (b .2)) }

@@ -1,9 +1,11 @@
 -- What a good card is, and which line of any other is the first bad one (document 01, "The card").
 -- Assumes nothing: these are definitions.
 use mathlib.Core.Path.{_≡_}
+use mathlib.Core.Logic.{_⊎_}
 use mathlib.Core.List.{List, [], _∷_, _++_, map}
 use Prim.Native.Nat.{ℕ, zero, suc, _≤_, _<_}
 use lib.ListN.{length}
+use Rattle.rules.specs.Refusals.{noLine}
 use Rattle.text.specs.declared.line.Cell.{Cell}
 use Rattle.text.specs.declared.line.Op.{Op}
 use Rattle.text.specs.declared.line.Line.{Line}
@@ -52,8 +54,28 @@ pub record Breaks (K : List Line → Type 0) (s : List ℕ) (n : ℕ) : Type 0 w
   pub before : Opens K s n
   pub here : Opens K s (suc n) → ⊥
 
--- what the check answers: Bad 0 for a card that is too long; else Good for a good card, or the first bad line counted from 1
-abbrev pub Checked : List ℕ → Verdict → Type 0
-Checked s Good = (length s ≤ maxBytes) × Made Whole s
-Checked s (Bad zero) = maxBytes < length s
-Checked s (Bad (suc n)) = (length s ≤ maxBytes) × Breaks Whole s n
+-- ---- document 01's number of every verdict, and the line beside it
+pub record Ruling : Type 0 where
+  pub code : ℕ
+  pub line : ℕ
+
+abbrev pub passed : Ruling
+passed = record { code = 0; line = 0 }
+
+abbrev pub stopped : ℕ → Ruling
+stopped n = record { code = noLine; line = n }
+
+abbrev pub ruling : Verdict → Ruling
+ruling Good = passed
+ruling (Bad n) = stopped n
+
+-- the line that stops a card: 0 where it is too long, else its first bad line, counted from 1
+abbrev pub StopsAt : List ℕ → ℕ → Type 0
+StopsAt s zero = maxBytes < length s
+StopsAt s (suc n) = (length s ≤ maxBytes) × Breaks Whole s n
+
+-- what the check answers: 0 for a good card; for any other 9, with the line that stops it
+pub record Checked (s : List ℕ) (r : Ruling) : Type 0 where
+  pub known : (r ≡ passed) ⊎ (r ≡ stopped (r .line))
+  pub good : r .code ≡ 0 → (length s ≤ maxBytes) × Made Whole s
+  pub bad : r .code ≡ noLine → StopsAt s (r .line)

@@ -4,9 +4,10 @@ use mathlib.Core.List.{List, [], _∷_, _++_, append-assoc}
 use Prim.Native.Nat.{ℕ, zero, suc, _≤_, _<_}
 use native.Mathlib.Omega.{arith}
 use native.Mathlib.Decide.{decLt}
-use lib.ListN.{take, drop, take-append-drop}
+use lib.ListN.{length, take, drop, take-append-drop}
 use lib.Seq.{length-take-le}
 use Rattle.text.specs.declared.line.Line.{Line}
+use Rattle.text.specs.Limits.{maxBytes}
 use Rattle.text.specs.Lines.{written}
 use Rattle.card.specs.declared.check.Verdict.{Verdict}
 use Rattle.card.specs.declared.check.Verdict.the-variants.{Good, Bad}
@@ -19,7 +20,7 @@ use Rattle.print.specs.declared.Out.{Out}
 use Rattle.print.specs.declared.Out.the-variants.{None, Number, Value}
 use Rattle.print.specs.declared.Report.{Report}
 use Rattle.print.specs.Printed.{outText, byOf, byText, opLine}
-use Rattle.card.specs.Cards.{Opens, Breaks, Checked, text}
+use Rattle.card.specs.Cards.{Whole, Made, Opens, Breaks, text, ruling, StopsAt, Checked}
 use Rattle.card.specs.Running.{callOf, outOf, shown, Plain, Ran}
 
 text-append : (ls ms : List Line) → text (ls ++ ms) ≡ text ls ++ text ms
@@ -54,16 +55,22 @@ breaks-one {K} {s} n m f g = go (decLt n m) (decLt m n)
     go (no h) (no d) = omega arith
 
 -- check: one verdict for each card
-pub checked-one : (s : List ℕ) (r q : Verdict) → Checked s r → Checked s q → r ≡ q
-checked-one s Good Good f g = refl
-checked-one s Good (Bad zero) f g = absurd (omega (arith, f .0))
-checked-one s Good (Bad (suc n)) f g = absurd (g .1 .bad (f .1))
-checked-one s (Bad zero) Good f g = absurd (omega (arith, g .0))
-checked-one s (Bad zero) (Bad zero) f g = refl
-checked-one s (Bad zero) (Bad (suc n)) f g = absurd (omega (arith, g .0))
-checked-one s (Bad (suc n)) Good f g = absurd (f .1 .bad (g .1))
-checked-one s (Bad (suc n)) (Bad zero) f g = absurd (omega (arith, f .0))
-checked-one s (Bad (suc n)) (Bad (suc m)) f g = ap (λ (k : ℕ). Bad (suc k)) (breaks-one n m (f .1) (g .1))
+module _ (s : List ℕ) where
+  good-or-stops : (n : ℕ) → StopsAt s n → (length s ≤ maxBytes) × Made Whole s → ⊥
+  good-or-stops zero h g = omega (arith, g .0)
+  good-or-stops (suc n) h g = h .1 .bad (g .1)
+
+  stops-one : (n m : ℕ) → StopsAt s n → StopsAt s m → n ≡ m
+  stops-one zero zero h g = refl
+  stops-one zero (suc m) h g = absurd (omega (arith, g .0))
+  stops-one (suc n) zero h g = absurd (omega (arith, h .0))
+  stops-one (suc n) (suc m) h g = ap suc (breaks-one n m (h .1) (g .1))
+
+  pub checked-one : (r q : Verdict) → Checked s (ruling r) → Checked s (ruling q) → r ≡ q
+  checked-one Good Good f g = refl
+  checked-one Good (Bad m) f g = absurd (good-or-stops m (g .bad refl) (f .good refl))
+  checked-one (Bad n) Good f g = absurd (good-or-stops n (f .bad refl) (g .good refl))
+  checked-one (Bad n) (Bad m) f g = ap Bad (stops-one n m (f .bad refl) (g .bad refl))
 
 -- ---- run: one line, one store and one trace
 out-text : (o : Out) → Plain 0 o → outText o ≡ whole (outOf o)

@@ -6,4 +6,5 @@ pub mod Roomy
 pub mod Tops
 pub mod Choice
 pub mod Examples
+pub mod FirstBad
 pub mod Cases

@@ -3,10 +3,11 @@ use text::Card;
 use text::line::Line;
 use text::line::Next;
 use text::line::next_line;
+ghost use mathlib.Core.Path.{_≡_};
 ghost use Prim.Native.Nat.{_≤_};
 ghost use lib.ListN.{length, drop};
 ghost use Rattle.text.specs.Limits.{maxBytes};
-ghost use Rattle.card.specs.Cards.{Checked};
+ghost use Rattle.card.specs.Cards.{ruling, Checked};
 ghost use Rattle.card.specs.Judging.{Body, Roomed, Noded, Judged};
 
 // Bad has the first bad line, counted from 1; 0 where the card is too long.
@@ -87,7 +88,8 @@ fn check_nodes(card: &[u8], from: usize, vars: u32) -> Verdict
 
 // Whether the card is good, and otherwise which line is its first bad one.
 pub fn check(card: &[u8]) -> Verdict
-    ensures { λ r. ⌜ Checked (now (card .entry)) r ⌝ }
+    ensures { λ r. ⌜ Checked (now (card .entry)) (ruling r) ⌝ }
+    ensures { λ _. ⌜ now (card .exit) ≡ now (card .entry) ⌝ }
 {
     if Card::BYTES < card.len() {
         return Verdict::Bad(0);

@@ -37,7 +37,7 @@ use Rattle.layout.specs.Same.{Bytes, becomes-one}
 use Rattle.layout.specs.Opening.{topCells}
 use Rattle.store.specs.Answers.{Numbers, refusal, seen}
 use Rattle.store.specs.Tables.{Row, row, Applies, Lowest, from-least}
-use Rattle.store.specs.Promises.{meaning, at, byAt, Answers, Shows, damagedRow, Openable, Opened, OpenPromise, Told, SwitchDone, parentAt, GotoPromise, BackPromise, LookPromise, PeekPromise}
+use Rattle.store.specs.Promises.{meaning, at, byAt, roomFor, Answers, Shows, damagedRow, Openable, Opened, OpenPromise, Told, SwitchDone, parentAt, GotoPromise, BackPromise, LookPromise, PeekPromise}
 use Rattle.demands.specs.Calls.{Promised, table, Done, Called, called, done-sound, Code, is-done, is-refused, code-of, opens, sound-lowest}
 use Rattle.demands.specs.Tests.{sizeAt}
 use Rattle.demands.specs.AsAct.{AsAct, as-act, done-effect, told-none}
@@ -143,9 +143,20 @@ pub record Walked (s t : List ℕ) (a : ℕ) (s′ t′ : List ℕ) (n : Numbers
   -- thunk that saves its place and is resumed there moves nothing
   pub placed : InPlace (view s) moves events
 
+-- the trace has room for the events of a switch from the focus to a
+abbrev pub Enough : List ℕ → List ℕ → ℕ → Type 0
+Enough s t a = length (eventsTo s a) ≤ roomFor t
+
 pub record Demand3 : Type 0 where
-  pub goto : (s t : List ℕ) (a : ℕ) (s′ t′ : List ℕ) (n : Numbers) → Bytes s → GotoPromise s t a s′ t′ n → n .code ≡ 0 → Walked s t a s′ t′ n
-  pub back : (s t s′ t′ : List ℕ) (n : Numbers) → Bytes s → BackPromise s t s′ t′ n → n .code ≡ 0 → Walked s t (parentAt s) s′ t′ n
+  -- a sound store, both environments made, room enough: the switch is done, and this is how it went
+  pub goto : (s t : List ℕ) (a : ℕ) (s′ t′ : List ℕ) (n : Numbers) → Bytes s → Sound s → IsMade s a → Enough s t a
+      → GotoPromise s t a s′ t′ n → (n .code ≡ 0) × Walked s t a s′ t′ n
+  -- .. and to the focus's parent, from anywhere but the top
+  pub back : (s t s′ t′ : List ℕ) (n : Numbers) → Bytes s → Sound s → focus s ≢ 0 → Enough s t (parentAt s)
+      → BackPromise s t s′ t′ n → (n .code ≡ 0) × Walked s t (parentAt s) s′ t′ n
+  -- so went every goto and every back that answers 0
+  pub went : (s t : List ℕ) (a : ℕ) (s′ t′ : List ℕ) (n : Numbers) → Bytes s → GotoPromise s t a s′ t′ n → n .code ≡ 0 → Walked s t a s′ t′ n
+  pub went-back : (s t s′ t′ : List ℕ) (n : Numbers) → Bytes s → BackPromise s t s′ t′ n → n .code ≡ 0 → Walked s t (parentAt s) s′ t′ n
   -- resumed where the focus is: done with no move and no event, and no byte differs
   pub resumed : (s t s′ t′ : List ℕ) (n : Numbers) → Bytes s → Bytes s′ → Sound s → GotoPromise s t (focus s) s′ t′ n
       → Told n (pos (focus s)) 0 0 × (s′ ≡ s) × (t′ ≡ t)
@@ -350,9 +361,35 @@ resumed-there s t s′ t′ n b b′ ok p = go (p .answers .lowest .exact)
     go (inr (inr (inr (inl (e, w))))) = absurd (omega (arith, no-event))
     go (inr (inr (inr (inr z)))) = absurd z
 
+-- every goto and every back that answers 0
+gone : (s t : List ℕ) (a : ℕ) (s′ t′ : List ℕ) (n : Numbers) → Bytes s → GotoPromise s t a s′ t′ n → n .code ≡ 0 → Walked s t a s′ t′ n
+gone s t a s′ t′ n b p e = walked s t a s′ t′ n b (done-sound (p .answers .lowest) e) (p .answers .done e)
+
+gone-back : (s t s′ t′ : List ℕ) (n : Numbers) → Bytes s → BackPromise s t s′ t′ n → n .code ≡ 0 → Walked s t (parentAt s) s′ t′ n
+gone-back s t s′ t′ n b p e = walked s t (parentAt s) s′ t′ n b (done-sound (p .answers .lowest) e) (p .answers .done e)
+
+-- with room enough and both made, no condition holds
+goes : (s t : List ℕ) (a : ℕ) (s′ t′ : List ℕ) (n : Numbers) → Bytes s → Sound s → IsMade s a → Enough s t a
+    → GotoPromise s t a s′ t′ n → (n .code ≡ 0) × Walked s t a s′ t′ n
+goes s t a s′ t′ n b ok made enough p = let e = go (p .answers .lowest .exact) in (e, gone s t a s′ t′ n b p e)
+  where
+    go : (n .code ≡ 0) ⊎ Applies (conditions (Call.goto a) s t) (n .code) → n .code ≡ 0
+    go (inl e) = e
+    go (inr (inl (e, bad))) = absurd (bad ok)
+    go (inr (inr (inl (e, un)))) = absurd (un made)
+    go (inr (inr (inr (inl (e, w))))) = absurd (omega (arith, enough))
+    go (inr (inr (inr (inr z)))) = absurd z
+
+goes-back : (s t s′ t′ : List ℕ) (n : Numbers) → Bytes s → Sound s → focus s ≢ 0 → Enough s t (parentAt s)
+    → BackPromise s t s′ t′ n → (n .code ≡ 0) × Walked s t (parentAt s) s′ t′ n
+goes-back s t s′ t′ n b ok below enough p = let e = go (p .answers .lowest .exact) in (e, gone-back s t s′ t′ n b p e)
+  where
+    go : (n .code ≡ 0) ⊎ Applies (conditions Call.back s t) (n .code) → n .code ≡ 0
+    go (inl e) = e
+    go (inr (inl (e, bad))) = absurd (bad ok)
+    go (inr (inr (inl (e, w)))) = absurd (omega (arith, enough))
+    go (inr (inr (inr (inl (e, top))))) = absurd (below top)
+    go (inr (inr (inr (inr z)))) = absurd z
+
 pub demand-3 : Demand3
-demand-3 = record {
-  goto = λ s t a s′ t′ n b p e. walked s t a s′ t′ n b (done-sound (p .answers .lowest) e) (p .answers .done e);
-  back = λ s t s′ t′ n b p e. walked s t (parentAt s) s′ t′ n b (done-sound (p .answers .lowest) e) (p .answers .done e);
-  resumed = resumed-there;
-}
+demand-3 = record { goto = goes; back = goes-back; went = gone; went-back = gone-back; resumed = resumed-there }

@@ -16,9 +16,9 @@ replyOf n = record { out = n .out; code = n .code; moves = n .moves; events = n 
 abbrev pub Hands : Reply → (Numbers → Type 0) → Type 0
 Hands r P = (n : Numbers) × (r ≡ replyOf n) × P n
 
--- where P leaves no choice, the reply has none
-pub hands-one : {P : Numbers → Type 0} {r q : Reply} → ((n m : Numbers) → P n → P m → n ≡ m) → Hands r P → Hands q P → r ≡ q
-hands-one one (n, e, p) (m, f, q) = e ∙ ap replyOf (one n m p q) ∙ sym f
+-- where the store's promise leaves no choice, neither does what is handed over: one reply, and what else is one
+pub hands-one : {P Q : Numbers → Type 0} {Same : Type 0} {r q : Reply} → ((n m : Numbers) → P n → Q m → (n ≡ m) × Same) → Hands r P → Hands q Q → (r ≡ q) × Same
+hands-one one (n, e, p) (m, f, q) = let (same, rest) = one n m p q in (e ∙ ap replyOf same ∙ sym f, rest)
 
 -- most variables, most environments; bytes of the header, of a cell, of a node, of an event; 0 past these
 unfoldable pub limit : ℕ → ℕ

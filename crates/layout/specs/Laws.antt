@@ -1,6 +1,6 @@
 -- What is read after a write. The header, the cells and the nodes are apart, so each write changes one field of `Fields`,
--- the buffer keeps its length and the bytes past the size stay. With Limits, Records and Bytes, the only file that knows
--- a place. Assumes nothing.
+-- the buffer keeps its length and the bytes past the size stay. Assumes nothing.
+-- Of the laws, these know the records' places and RecordLaws the fields'; CheckLaws, OpenLaws and Same know some of both.
 use mathlib.Core.Path.{_≡_, refl, sym, ap, subst, _∙_, fun-ext}
 use mathlib.Core.Logic.{_≢_}
 use mathlib.Core.Bool.{Bool, true, false, cond}

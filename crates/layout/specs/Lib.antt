@@ -21,7 +21,6 @@ pub mod GrowLaws
 pub mod CheckLaws
 pub mod Routes
 pub mod WalkLaws
-pub mod LeaveLaws
 pub mod Same
 pub mod RouteLaws
 pub mod EventLaws

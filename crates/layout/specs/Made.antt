@@ -1,5 +1,6 @@
 -- Which numbers are environments, which number comes next, and when there is no room: document 01 numbers in the order of
--- making. Nothing else compares a number with `made`. Assumes nothing: these are definitions.
+-- making. The calls ask by these three; of the definitions only soundness compares numbers with `made` beside them.
+-- Assumes nothing: these are definitions.
 use mathlib.Core.Path.{_≡_}
 use Prim.Native.Nat.{ℕ, _<_}
 use mathlib.Core.List.{List}

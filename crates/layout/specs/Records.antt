@@ -1,5 +1,5 @@
 -- Document 01, "The bytes of a store": the header, a cell and a node as parts of the list, the fields read from such a
--- record, and the records with fields changed. With Limits and Laws, the only files that know a place.
+-- record, and the records with fields changed. The places that a promise rests on are here and in Limits.
 -- Assumes nothing: these are definitions.
 use mathlib.Core.Path.{_≡_}
 use mathlib.Core.Logic.{_⊎_}

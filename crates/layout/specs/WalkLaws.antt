@@ -214,12 +214,12 @@ module _ (s : List ℕ) (ok : Sound s) (a : ℕ) (made : IsMade s a) where
   -- ---- the target is in or the top: the focus is left, then the walk goes on
   module _ (d : a ≢ focus s) (inside : isOut (kindN (nodeOf s a)) ≡ false) where
     -- the focus has a parent, and lies on no path of a
-    pub record Above : Type 0 where
-      pub p : ℕ
-      pub up : view s .tree .up (focus s) ≡ some p
-      pub off : on (focus s) (path (view s .tree) a) ≡ false
+    record Above : Type 0 where
+      p : ℕ
+      up : view s .tree .up (focus s) ≡ some p
+      off : on (focus s) (path (view s .tree) a) ≡ false
 
-    pub above-focus : Above
+    above-focus : Above
     above-focus = go (turn (view s) (sound-view s ok) a (made-seen s ok a made)) (in-above s ok a made inside)
       where
         go : Turn (view s) a → (view s .tree .up a ≡ none) ⊎ (view s .mode a ≡ true) → Above
@@ -232,27 +232,24 @@ module _ (s : List ℕ) (ok : Sound s) (a : ℕ) (made : IsMade s a) where
     in-turns = turns s ok (focus s) (above-focus .p) (above-focus .up)
 
     module _ (t : List ℕ) (left : t ≡ leaveB s) where
-      pub left-becomes : Becomes s t (store.leaveTo (above-focus .p) (view s))
+      left-becomes : Becomes s t (store.leaveTo (above-focus .p) (view s))
       left-becomes = rw left (leave-becomes s ok (above-focus .p) (above-focus .up))
 
       in-sound : Sound t
       in-sound = left-becomes .sound
 
-      pub in-made : IsMade t a
+      in-made : IsMade t a
       in-made = seen-made t in-sound a (rw (left-becomes .seen) (made-seen s ok a made))
 
-      pub in-falls : movesTo t a < movesTo s a
+      in-falls : movesTo t a < movesTo s a
       in-falls =
           rw (← (seen-focus t in-sound), left-becomes .seen)
           (omega (arith, rw (seen-focus s ok) at (far-in (view s) (sound-view s ok) a (made-seen s ok a made) (above-focus .p) (rw (← (seen-focus s ok)) at (above-focus .up)) (rw (← (seen-focus s ok)) at (above-focus .off)))))
 
-      -- what is left to do is the same switch
-      pub left-same : goto a (view t) ≡ goto a (view s)
-      left-same =
-          ap (goto a) (left-becomes .seen) ∙ sym (goto-in (view s) (sound-view s ok) a (made-seen s ok a made) (above-focus .p) (rw (← (seen-focus s ok)) at (above-focus .up)))
-
       way-in : (u : List ℕ) → Becomes t u (goto a (view t)) → Becomes s u (goto a (view s))
-      way-in u walked = becomes-then left-becomes walked left-same
+      way-in u walked =
+          becomes-then left-becomes walked
+          (ap (goto a) (left-becomes .seen) ∙ sym (goto-in (view s) (sound-view s ok) a (made-seen s ok a made) (above-focus .p) (rw (← (seen-focus s ok)) at (above-focus .up))))
 
 -- ---- the three together, as the code has them: first the focus is left, or the target is its parent; then the walk; then, where
 -- that did not end at the target, the target is entered

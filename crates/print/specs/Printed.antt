@@ -4,6 +4,7 @@ use mathlib.Core.Bool.{Bool, true, false}
 use mathlib.Core.List.{List, _++_}
 use mathlib.Core.Option.{Option, none, some}
 use Prim.Native.Nat.{ℕ}
+use Rattle.rules.specs.Refusals.{noLine}
 use Rattle.text.specs.Words.{bytes}
 use Rattle.text.specs.Decimal.{decimal, whole}
 use Rattle.print.specs.declared.Out.{Out}
@@ -49,6 +50,6 @@ kindText false = bytes "leave="
 unfoldable pub eventLine : Bool → ℕ → ℕ → List ℕ
 eventLine entering thunk place = field (kindText entering) thunk ++ field (bytes "@") place ++ bytes "\n"
 
--- the one line of a card that is no good
+-- the one line of a card that is no good: its first bad line, and the number for that
 unfoldable pub badLine : ℕ → List ℕ
-badLine n = field (bytes "line=") n ++ bytes " code=9\n"
+badLine n = field (bytes "line=") n ++ (field (bytes " code=") noLine ++ bytes "\n")

@@ -213,7 +213,7 @@ pub fn wind(s: &mut [u8], t: &mut [u8], p: u16, q: u16) -> Answer
     wind_at(s, t, p as usize, q as usize)
 }
 
-// The focus moves to a: surveyed first, then told, then walked, up to the meeting point by a loop.
+// The focus moves to a: surveyed first, then told, then walked.
 fn switch_to(s: &mut [u8], t: &mut [u8], a: usize) -> Answer
     requires { ⌜ Sound (now s) × IsMade (now s) a ⌝ }
     ensures { λ r. ⌜ Switches (now (s .entry)) (now (t .entry)) a (now (s .exit)) (now (t .exit)) (roomRow (now (t .entry)) (eventsTo (now (s .entry)) a) ∷ []) (numbers r) ⌝ }
@@ -225,7 +225,6 @@ fn switch_to(s: &mut [u8], t: &mut [u8], a: usize) -> Answer
         return Answer::TraceRoom;
     }
     trace::tell(s, t, a, meet, events);
-    moves::leave_to(s, meet);
     moves::walk(s, a);
     Answer::Switched(Switch {
         focus: a as u16,

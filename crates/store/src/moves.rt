@@ -11,7 +11,6 @@ ghost use Rattle.layout.specs.Sound.{Sound};
 ghost use Rattle.layout.specs.Writes.{Turns, swapB, turnB, leaveB, enterB};
 ghost use Rattle.layout.specs.Made.{IsMade};
 ghost use Rattle.layout.specs.Becomes.{Becomes};
-ghost use Rattle.layout.specs.Routes.{OnWay};
 use crate::records::bare_of;
 use crate::records::cell;
 use crate::records::focus_of;
@@ -79,19 +78,8 @@ pub(crate) fn is_out(k: u8) -> bool
     }
 }
 
-// To m on the focus's path: the focus is left again and again. A loop: it takes no stack, and no returns.
-pub(crate) fn leave_to(s: &mut [u8], m: usize)
-    requires { ⌜ Sound (now s) × OnWay (now s) m ⌝ }
-    ensures { λ _. ⌜ Becomes (now (s .entry)) (now (s .exit)) (goto m (view (now (s .entry)))) ⌝ }
-{
-    while focus_of(s) != m {
-        leave(s);
-    }
-}
-
 // To a: a target that is out is entered after the focus has been brought to its parent; for a target that is in, the focus is
-// left first. It calls itself at one place and holds little across that call: 48 bytes of stack a level on x86-64. That is also
-// why `switch_to` leaves by the loop above before it walks.
+// left first. It calls itself at one place and holds little across that call: 48 bytes of stack a level on x86-64.
 pub(crate) fn walk(s: &mut [u8], a: usize)
     requires { ⌜ Sound (now s) × IsMade (now s) a ⌝ }
     ensures { λ _. ⌜ Becomes (now (s .entry)) (now (s .exit)) (goto a (view (now (s .entry)))) ⌝ }

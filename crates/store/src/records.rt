@@ -1,4 +1,5 @@
-// The header, the cells and the nodes as parts of the lent store, read and written. Only this file knows the fields' places.
+// The header, the cells and the nodes as parts of the lent store, read and written: the fields' places. check.rt and opening.rt know
+// some of them too, where they look at or write a record whole; trace.rt knows an event's.
 ghost use mathlib.Core.Path.{_≡_};
 ghost use mathlib.Core.List.{List, [], _∷_};
 ghost use Prim.Native.Nat.{ℕ, _+_, _<_, _≤_};

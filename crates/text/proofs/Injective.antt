@@ -1,36 +1,36 @@
--- Two lines with the same text are the same line. Assumes nothing.
+-- Two lines with the same text are the same line, and a text begins with one line alone. Assumes nothing.
 use mathlib.Core.Path.{_≡_, refl, sym, ap, subst, _∙_}
 use mathlib.Core.Logic.{_≢_}
 use mathlib.Core.List.{List, [], _∷_, _++_}
 use Prim.Native.Nat.{ℕ, _≤_}
 use native.Mathlib.Omega.{arith}
-use lib.IntN.{ℤ, pos, negsuc}
+use lib.IntN.{ℤ}
 use lib.ListN.{length, getD, drop}
 use lib.Seq.{drop-at}
 use Rattle.text.specs.declared.keys.Word.{Word}
 use Rattle.text.specs.declared.keys.Word.the-variants as word
 use Rattle.text.specs.declared.line.Cell.{Cell}
 use Rattle.text.specs.declared.line.Cell.the-variants as cell
-use Rattle.text.specs.declared.line.Op.the-variants as op
 use Rattle.text.specs.declared.line.Line.{Line}
 use Rattle.text.specs.declared.line.Line.the-variants as line
 use Rattle.text.specs.Words.{bytes}
 use Rattle.text.specs.Every.{All}
-use Rattle.text.specs.Decimal.{tens, decimal, whole}
+use Rattle.text.specs.Decimal.{decimal, whole}
 use Rattle.text.specs.DecimalLaws.{decimal-inj}
 use Rattle.text.specs.ReadBack.{whole-inj}
 use Rattle.text.specs.Keys.{text, Starts}
-use Rattle.text.specs.Lines.{key, operands, pair, written, InRange, Good}
+use Rattle.text.specs.Lines.{key, operands, pair, written}
 use Rattle.text.proofs.KeyTable.{alone}
 use Rattle.text.proofs.Pairs.{no-comma}
 use Rattle.text.proofs.Operands.{Args, make, made, low}
+use Rattle.text.proofs.Leading.{one-line}
 
--- ---- a text is cut at its first comma in one way
-cut-one : (a b s t : List ℕ) → All (λ x. x ≢ 44) a → All (λ x. x ≢ 44) b → a ++ (44 ∷ s) ≡ b ++ (44 ∷ t) → (a ≡ b) × (s ≡ t)
-cut-one [] [] s t f g e = (refl, ap (drop 1) e)
-cut-one [] (y ∷ b) s t f g e = absurd (g .0 (sym (ap (λ (l : List ℕ). getD l 0 0) e)))
-cut-one (x ∷ a) [] s t f g e = absurd (f .0 (ap (λ (l : List ℕ). getD l 0 0) e))
-cut-one (x ∷ a) (y ∷ b) s t f g e = go (cut-one a b s t (f .1) (g .1) (ap (drop 1) e))
+-- ---- a text is cut at the first place of a byte in one way
+cut-one : (c : ℕ) (a b s t : List ℕ) → All (λ x. x ≢ c) a → All (λ x. x ≢ c) b → a ++ (c ∷ s) ≡ b ++ (c ∷ t) → (a ≡ b) × (s ≡ t)
+cut-one c [] [] s t f g e = (refl, ap (drop 1) e)
+cut-one c [] (y ∷ b) s t f g e = absurd (g .0 (sym (ap (λ (l : List ℕ). getD l 0 0) e)))
+cut-one c (x ∷ a) [] s t f g e = absurd (f .0 (ap (λ (l : List ℕ). getD l 0 0) e))
+cut-one c (x ∷ a) (y ∷ b) s t f g e = go (cut-one c a b s t (f .1) (g .1) (ap (drop 1) e))
   where
     go : (a ≡ b) × (s ≡ t) → (x ∷ a ≡ y ∷ b) × (s ≡ t)
     go (p, q) = ((λ i. ap (λ (l : List ℕ). getD l 0 0) e i ∷ p i), q)
@@ -38,7 +38,7 @@ cut-one (x ∷ a) (y ∷ b) s t f g e = go (cut-one a b s t (f .1) (g .1) (ap (d
 pair-inj : {B : Type 0} (spell : B → List ℕ) → ((x y : B) → spell x ≡ spell y → x ≡ y) → (a b : ℕ × B) →
     pair (decimal (a .0)) (spell (a .1)) ≡ pair (decimal (b .0)) (spell (b .1)) → a ≡ b
 pair-inj {B} spell inj a b e =
-    let c = cut-one (decimal (a .0)) (decimal (b .0)) (spell (a .1)) (spell (b .1)) (no-comma (a .0)) (no-comma (b .0)) e in
+    let c = cut-one 44 (decimal (a .0)) (decimal (b .0)) (spell (a .1)) (spell (b .1)) (no-comma (a .0)) (no-comma (b .0)) e in
     λ i. (decimal-inj (a .0) (b .0) (c .0) i, inj (a .1) (b .1) (c .1) i)
 
 not-none : (v : ℤ) → whole v ≡ bytes "none" → ⊥
@@ -81,14 +81,9 @@ written-inj l k e = sym (a .1) ∙ ap (make (key k)) (args-inj (key k) (a .0) (m
     same : operands (make (key k) (a .0)) ≡ operands (make (key k) (made k .0))
     same = ap operands (a .1) ∙ behind ∙ sym (ap operands (made k .1))
 
--- case (i), the card's half: -2,147,483,648 is a good line's value, and -2,147,483,649 is no good line's
-pub lowest-read : Good (bytes "bind=0,-2147483648") (line.Do (op.Bind 0 (negsuc 2147483647)))
-unfolding decimal whole tens
-lowest-read = record { text = refl; range = (omega arith, omega arith) }
-
-pub below-lowest-refused : (l : Line) → Good (bytes "bind=0,-2147483649") l → ⊥
-unfolding decimal whole tens
-below-lowest-refused l g =
-    let e : l ≡ line.Do (op.Bind 0 (negsuc 2147483648)) = written-inj l (line.Do (op.Bind 0 (negsuc 2147483648))) (sym (g .text)) in
-    let r : InRange (line.Do (op.Bind 0 (negsuc 2147483648))) = subst InRange e (g .range) in
-    omega (arith, r .1)
+-- a text begins with one line and its LF alone
+pub line-one : (l k : Line) (s t : List ℕ) → written l ++ (10 ∷ s) ≡ written k ++ (10 ∷ t) → (l ≡ k) × (s ≡ t)
+line-one l k s t e = go (cut-one 10 (written l) (written k) s t (one-line l) (one-line k) e)
+  where
+    go : (written l ≡ written k) × (s ≡ t) → (l ≡ k) × (s ≡ t)
+    go (p, q) = (written-inj l k p, q)

@@ -8,6 +8,7 @@ use crate::keys::Found;
 use crate::keys::Word;
 use crate::keys::find_key;
 use crate::keys::is_text;
+ghost use mathlib.Core.Path.{_≡_};
 ghost use Prim.Native.Nat.{_≤_};
 ghost use Rattle.text.specs.Decimal.{decimal, whole};
 ghost use Rattle.text.specs.Finds.{Finds};
@@ -235,6 +236,7 @@ fn read_line(s: &[u8]) -> Reading
 // The good line that s begins with.
 pub fn next_line(s: &[u8]) -> Next
     ensures { λ r. ⌜ Finds (Leads (now (s .entry))) (nextOf r) ⌝ }
+    ensures { λ _. ⌜ now (s .exit) ≡ now (s .entry) ⌝ }
 {
     let i = find_byte(s, b'\n');
     if s.len() <= i {

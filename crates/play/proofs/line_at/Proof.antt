@@ -20,7 +20,7 @@ next-line-requires : tie.Need-next-line-requires
 next-line-requires c κs = search needs
 
 returns-2 : tie.Need-returns-2
-returns-2 c = there (c .before .before .before .before .args .card .now) (c .before .before .before .before .args .at) (search needs) (c .next-line .result) (c .next-line .ensures)
+returns-2 c = there (c .before .before .before .before .args .card .now) (c .before .before .before .before .args .at) (search needs) (c .next-line .result) (c .next-line .ensures .0)
 
 pub line-at-spec : {M : Type 1} → statement M
 line-at-spec =

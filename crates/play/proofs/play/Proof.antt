@@ -1,4 +1,5 @@
 -- `play::play` is safe and ends. Assumes nothing.
+use mathlib.Core.Path.{refl}
 use borrow.Author.Needs.{needs}
 use Rattle.play.proofs.play.Statement.{statement}
 use Rattle.play.proofs.play.Tie as tie
@@ -10,7 +11,7 @@ enum-told : tie.Need-enum-told
 enum-told c = search needs
 
 run-card-requires : tie.Need-run-card-requires
-run-card-requires c κs = (rw (c .enum-told .given .1) at (c .before .before .check .ensures)) .0
+run-card-requires c κs = (rw (c .enum-told .given .1) at (c .before .before .check .ensures .0)) .good refl .0
 
 enum-known-line : tie.Need-enum-known-line
 enum-known-line c = search needs

@@ -1,4 +1,5 @@
 -- `print::put_bad` meets its contract. Assumes nothing.
+use Rattle.text.specs.Decimal.{tens, decimal}
 use Rattle.print.specs.Printed.{badLine}
 use Rattle.print.specs.Writing.{wrote-more}
 use borrow.Author.Needs.{needs}
@@ -18,7 +19,7 @@ put-text-requires : tie.Need-put-text-requires
 put-text-requires c κs = search needs
 
 returns : tie.Need-returns
-unfolding badLine
+unfolding badLine decimal tens
 returns c = wrote-more (search needs) (c .before .before .before .put-field .ensures .0) (c .put-text .ensures)
 
 pub put-bad-spec : {M : Type 1} → statement M

@@ -31,29 +31,29 @@ enum-told : tie.Need-enum-told
 enum-told c = search needs
 
 returns : tie.Need-returns
-returns c = heading-none (noded-some (c .before .before .before .before .before .args .vars)) (at-place (c .before .before .before .before .before .args .card .now) (c .before .before .before .before .before .args .from) (c .before .before .next-line .ensures) (c .enum-told .given .1))
+returns c = heading-none (noded-some (c .before .before .before .before .before .args .vars)) (at-place (c .before .before .before .before .before .args .card .now) (c .before .before .before .before .before .args .from) (c .before .before .next-line .ensures .0) (c .enum-told .given .1))
 
 enum-told-2 : tie.Need-enum-told-2
 enum-told-2 c = search needs
 
 returns-2 : tie.Need-returns-2
 returns-2 c =
-    heading-other (noded-some (c .before .before .before .before .before .before .before .args .vars)) (at-place (c .before .before .before .before .before .before .before .args .card .now) (c .before .before .before .before .before .before .before .args .from) (c .before .before .before .before .next-line .ensures) (c .before .before .line .given .1))
+    heading-other (noded-some (c .before .before .before .before .before .before .before .args .vars)) (at-place (c .before .before .before .before .before .before .before .args .card .now) (c .before .before .before .before .before .before .before .args .from) (c .before .before .before .before .next-line .ensures .0) (c .before .before .line .given .1))
     (λ x e. not-taken (0 ∷ 2 ∷ 3 ∷ 4 ∷ []) 1 tt (ap (tagOf the-type) e) (c .match2 .keys2))
 
 add-check-room : tie.Need-add-check-room
 add-check-room c =
-    let m = further (c .before .before .before .before .before .before .before .before .args .card .now) (c .before .before .before .before .before .before .before .before .args .from) (search needs) (at-place (c .before .before .before .before .before .before .before .before .args .card .now) (c .before .before .before .before .before .before .before .before .args .from) (c .before .before .before .before .before .next-line .ensures) (c .before .before .before .line .given .1)) in
+    let m = further (c .before .before .before .before .before .before .before .before .args .card .now) (c .before .before .before .before .before .before .before .before .args .from) (search needs) (at-place (c .before .before .before .before .before .before .before .before .args .card .now) (c .before .before .before .before .before .before .before .before .args .from) (c .before .before .before .before .before .next-line .ensures .0) (c .before .before .before .line .given .1)) in
     record { fits = omega (arith, m .1) }
 
 check-room-requires : tie.Need-check-room-requires
 check-room-requires c κs =
-    let m = further (c .before .before .before .before .before .before .before .before .args .card .now) (c .before .before .before .before .before .before .before .before .args .from) (search needs) (at-place (c .before .before .before .before .before .before .before .before .args .card .now) (c .before .before .before .before .before .before .before .before .args .from) (c .before .before .before .before .before .next-line .ensures) (c .before .before .before .line .given .1)) in
+    let m = further (c .before .before .before .before .before .before .before .before .args .card .now) (c .before .before .before .before .before .before .before .before .args .from) (search needs) (at-place (c .before .before .before .before .before .before .before .before .args .card .now) (c .before .before .before .before .before .before .before .before .args .from) (c .before .before .before .before .before .next-line .ensures .0) (c .before .before .before .line .given .1)) in
     (m .1, omega (arith, m .0), search needs)
 
 returns-3 : tie.Need-returns-3
 returns-3 c =
-    heading-step nodes-inj (at-place (c .before .before .before .before .before .before .before .before .before .args .card .now) (c .before .before .before .before .before .before .before .before .before .args .from) (c .before .before .before .before .before .before .next-line .ensures) (c .before .before .before .before .line .given .1)) (c .before .enum-told2 .given .1)
+    heading-step nodes-inj (at-place (c .before .before .before .before .before .before .before .before .before .args .card .now) (c .before .before .before .before .before .before .before .before .before .args .from) (c .before .before .before .before .before .before .next-line .ensures .0) (c .before .before .before .before .line .given .1)) (c .before .enum-told2 .given .1)
     (rw (drop-drop (c .before .before .before .before .line .given .0 .1 .0) (c .before .before .before .before .before .before .before .before .before .args .from) (c .before .before .before .before .before .before .before .before .before .args .card .now)) (c .check-room .ensures))
 
 pub check-nodes-spec : {M : Type 1} → statement M

@@ -52,7 +52,7 @@ returns : tie.Need-returns Inv-loop μ-loop
 returns c =
     c .before .before .before .before .before .loop .inv .2 _
     (no-line body-range (body-some 0) (λ b. some-left (c .before .before .before .before .before .before .before .args .card .now) (c .before .before .before .before .before .loop .at) (c .before .before .before .before .loop-test .taken))
-    (at-place (c .before .before .before .before .before .before .before .args .card .now) (c .before .before .before .before .before .loop .at) (c .before .before .next-line .ensures) (c .enum-told .given .1)))
+    (at-place (c .before .before .before .before .before .before .before .args .card .now) (c .before .before .before .before .before .loop .at) (c .before .before .next-line .ensures .0) (c .enum-told .given .1)))
 
 enum-told-2 : tie.Need-enum-told-2 Inv-loop μ-loop
 enum-told-2 c = search needs
@@ -64,12 +64,12 @@ returns-2 : tie.Need-returns-2 Inv-loop μ-loop
 returns-2 c =
     c .before .before .before .before .before .before .before .loop .inv .2 _
     (other-line body-range (body-some 0) (λ b. some-left (c .before .before .before .before .before .before .before .before .before .args .card .now) (c .before .before .before .before .before .before .before .loop .at) (c .before .before .before .before .before .before .loop-test .taken))
-    (at-place (c .before .before .before .before .before .before .before .before .before .args .card .now) (c .before .before .before .before .before .before .before .loop .at) (c .before .before .before .before .next-line .ensures) (c .before .before .line .given .1))
+    (at-place (c .before .before .before .before .before .before .before .before .before .args .card .now) (c .before .before .before .before .before .before .before .loop .at) (c .before .before .before .before .next-line .ensures .0) (c .before .before .line .given .1))
     (λ ls b. not-taken (0 ∷ 1 ∷ 2 ∷ 3 ∷ []) 4 tt (ap (tagOf the-type) (op-first b .1)) (c .match2 .keys2)))
 
 add-at : tie.Need-add-at Inv-loop μ-loop
 add-at c =
-    let m = further (c .before .before .before .before .before .before .before .before .before .before .args .card .now) (c .before .before .before .before .before .before .before .before .loop .at) (search needs) (at-place (c .before .before .before .before .before .before .before .before .before .before .args .card .now) (c .before .before .before .before .before .before .before .before .loop .at) (c .before .before .before .before .before .next-line .ensures) (c .before .before .before .line .given .1)) in
+    let m = further (c .before .before .before .before .before .before .before .before .before .before .args .card .now) (c .before .before .before .before .before .before .before .before .loop .at) (search needs) (at-place (c .before .before .before .before .before .before .before .before .before .before .args .card .now) (c .before .before .before .before .before .before .before .before .loop .at) (c .before .before .before .before .before .next-line .ensures .0) (c .before .before .before .line .given .1)) in
     record { fits = omega (arith, m .1) }
 
 add-lines : tie.Need-add-lines Inv-loop μ-loop
@@ -77,12 +77,12 @@ add-lines c = search needs
 
 loop-less : tie.Need-loop-less Inv-loop μ-loop
 loop-less c =
-    let m = further (c .before .before .before .before .before .before .before .before .before .before .args .card .now) (c .before .before .before .before .before .before .before .before .loop .at) (search needs) (at-place (c .before .before .before .before .before .before .before .before .before .before .args .card .now) (c .before .before .before .before .before .before .before .before .loop .at) (c .before .before .before .before .before .next-line .ensures) (c .before .before .before .line .given .1)) in
+    let m = further (c .before .before .before .before .before .before .before .before .before .before .args .card .now) (c .before .before .before .before .before .before .before .before .loop .at) (search needs) (at-place (c .before .before .before .before .before .before .before .before .before .before .args .card .now) (c .before .before .before .before .before .before .before .before .loop .at) (c .before .before .before .before .before .next-line .ensures .0) (c .before .before .before .line .given .1)) in
     omega (arith, m .0, m .1)
 
 loop-again : tie.Need-loop-again Inv-loop μ-loop
 loop-again c =
-    let f = at-place (c .before .before .before .before .before .before .before .before .before .before .args .card .now) (c .before .before .before .before .before .before .before .before .loop .at) (c .before .before .before .before .before .next-line .ensures) (c .before .before .before .line .given .1) in
+    let f = at-place (c .before .before .before .before .before .before .before .before .before .before .args .card .now) (c .before .before .before .before .before .before .before .before .loop .at) (c .before .before .before .before .before .next-line .ensures .0) (c .before .before .before .line .given .1) in
     let m = further (c .before .before .before .before .before .before .before .before .before .before .args .card .now) (c .before .before .before .before .before .before .before .before .loop .at) (search needs) f in (
       m .1,
       omega (arith, m .0),

@@ -31,29 +31,29 @@ enum-told : tie.Need-enum-told
 enum-told c = search needs
 
 returns : tie.Need-returns
-returns c = heading-none (roomed-some (c .before .before .before .before .before .args .vars)) (at-place (c .before .before .before .before .before .args .card .now) (c .before .before .before .before .before .args .from) (c .before .before .next-line .ensures) (c .enum-told .given .1))
+returns c = heading-none (roomed-some (c .before .before .before .before .before .args .vars)) (at-place (c .before .before .before .before .before .args .card .now) (c .before .before .before .before .before .args .from) (c .before .before .next-line .ensures .0) (c .enum-told .given .1))
 
 enum-told-2 : tie.Need-enum-told-2
 enum-told-2 c = search needs
 
 returns-2 : tie.Need-returns-2
 returns-2 c =
-    heading-other (roomed-some (c .before .before .before .before .before .before .before .args .vars)) (at-place (c .before .before .before .before .before .before .before .args .card .now) (c .before .before .before .before .before .before .before .args .from) (c .before .before .before .before .next-line .ensures) (c .before .before .line .given .1))
+    heading-other (roomed-some (c .before .before .before .before .before .before .before .args .vars)) (at-place (c .before .before .before .before .before .before .before .args .card .now) (c .before .before .before .before .before .before .before .args .from) (c .before .before .before .before .next-line .ensures .0) (c .before .before .line .given .1))
     (λ x e. not-taken (0 ∷ 1 ∷ 3 ∷ 4 ∷ []) 2 tt (ap (tagOf the-type) e) (c .match2 .keys2))
 
 add-check-body : tie.Need-add-check-body
 add-check-body c =
-    let m = further (c .before .before .before .before .before .before .before .before .args .card .now) (c .before .before .before .before .before .before .before .before .args .from) (search needs) (at-place (c .before .before .before .before .before .before .before .before .args .card .now) (c .before .before .before .before .before .before .before .before .args .from) (c .before .before .before .before .before .next-line .ensures) (c .before .before .before .line .given .1)) in
+    let m = further (c .before .before .before .before .before .before .before .before .args .card .now) (c .before .before .before .before .before .before .before .before .args .from) (search needs) (at-place (c .before .before .before .before .before .before .before .before .args .card .now) (c .before .before .before .before .before .before .before .before .args .from) (c .before .before .before .before .before .next-line .ensures .0) (c .before .before .before .line .given .1)) in
     record { fits = omega (arith, m .1) }
 
 check-body-requires : tie.Need-check-body-requires
 check-body-requires c κs =
-    let m = further (c .before .before .before .before .before .before .before .before .args .card .now) (c .before .before .before .before .before .before .before .before .args .from) (search needs) (at-place (c .before .before .before .before .before .before .before .before .args .card .now) (c .before .before .before .before .before .before .before .before .args .from) (c .before .before .before .before .before .next-line .ensures) (c .before .before .before .line .given .1)) in
+    let m = further (c .before .before .before .before .before .before .before .before .args .card .now) (c .before .before .before .before .before .before .before .before .args .from) (search needs) (at-place (c .before .before .before .before .before .before .before .before .args .card .now) (c .before .before .before .before .before .before .before .before .args .from) (c .before .before .before .before .before .next-line .ensures .0) (c .before .before .before .line .given .1)) in
     (m .1, omega (arith, m .0), search needs)
 
 returns-3 : tie.Need-returns-3
 returns-3 c =
-    heading-step room-inj (at-place (c .before .before .before .before .before .before .before .before .before .args .card .now) (c .before .before .before .before .before .before .before .before .before .args .from) (c .before .before .before .before .before .before .next-line .ensures) (c .before .before .before .before .line .given .1)) (c .before .enum-told2 .given .1)
+    heading-step room-inj (at-place (c .before .before .before .before .before .before .before .before .before .args .card .now) (c .before .before .before .before .before .before .before .before .before .args .from) (c .before .before .before .before .before .before .next-line .ensures .0) (c .before .before .before .before .line .given .1)) (c .before .enum-told2 .given .1)
     (rw (drop-drop (c .before .before .before .before .line .given .0 .1 .0) (c .before .before .before .before .before .before .before .before .before .args .from) (c .before .before .before .before .before .before .before .before .before .args .card .now)) (c .check-body .ensures))
 
 pub check-room-spec : {M : Type 1} → statement M

@@ -49,13 +49,21 @@ module _ (t : ℕ) where
   tested : (c : lts.After-is-out (cs t) (walk-at t) walk.Post) → c .is-out .result ≡ isOut (kindN (nodeOf (start (c .before .before .before) .args .s .now) (start (c .before .before .before) .args .a)))
   tested c = c .is-out .ensures ∙ ap isOut (c .before .kind-of .ensures)
 
+  -- from where the two ways of the code meet, back to behind the first test
+  abbrev passed : lts.Joined2 (cs t) (walk-at t) walk.Post → lts.Else1 (cs t) (walk-at t) walk.Post
+  passed j = j .before .before .before .before
+
   -- where the two ways meet
-  nearer : (c : lts.Joined2 (cs t) (walk-at t) walk.Post) → Nearer (start (c .before .before .before .before) .args .s .now) (start (c .before .before .before .before) .args .a) (c .if2 .s) (c .if2 .to)
+  nearer : (c : lts.Joined2 (cs t) (walk-at t) walk.Post) → Nearer (start (passed c) .args .s .now) (start (passed c) .args .a) (c .if2 .s) (c .if2 .to)
   nearer c =
       ⊎-elim
       (λ w. outward (sym (tested (c .before)) ∙ w .0 .taken) (w .4 ∙ w .2 .ensures .0) (w .3))
       (λ w. inward (sym (tested (c .before)) ∙ w .0 .left) (w .6) (w .5 ∙ w .2 .ensures))
       (c .if2 .came)
+
+  -- from behind the call back to there
+  abbrev met : lts.After-walk (cs t) (walk-at t) walk.Post → lts.Joined2 (cs t) (walk-at t) walk.Post
+  met w = w .before .before
 
   walk-focus-of-requires : lts.Need-focus-of-requires (cs t) (walk-at t) walk.Post
   walk-focus-of-requires c κs = omega (arith, sound-fit _ (c .before .before .pre .1 .0))
@@ -83,8 +91,9 @@ module _ (t : ℕ) where
 
   walk-walk-requires : lts.Need-walk-requires (cs t) (walk-at t) walk.Post
   walk-walk-requires c κs =
-      let n = nearer (c .before) in
-      let b = c .before .before .before .before .before in
+      let j = c .before in
+      let n = nearer j in
+      let b = passed j in
       let (ok, made) = start b .pre .1 in
       (omega (arith, near-falls _ ok _ made (apart b) _ _ n, start b .pre .0), (near-sound _ ok _ made (apart b) _ _ n, near-made _ ok _ made (apart b) _ _ n))
 
@@ -95,8 +104,8 @@ module _ (t : ℕ) where
   walk-enter-requires c κs =
       let at = c .before .before in
       let w = at .before .before .before .before in
-      let j = w .before .before in
-      let b = j .before .before .before .before in
+      let j = met w in
+      let b = passed j in
       let (ok, made) = start b .pre .1 in
       near-turns _ ok _ made (apart b) _ _ _ (w .walk .ensures) (nearer j) (λ e. c .before .if3 .taken (at .focus-of2 .ensures .0 ∙ e))
 
@@ -105,8 +114,8 @@ module _ (t : ℕ) where
       let test = c .before .before .before .before in
       let at = test .before in
       let w = at .before .before .before .before in
-      let j = w .before .before in
-      let b = j .before .before .before .before in
+      let j = met w in
+      let b = passed j in
       let (ok, made) = start b .pre .1 in
       near-entered _ ok _ made (apart b) _ _ _ (w .walk .ensures) (nearer j) (λ e. test .if3 .taken (at .focus-of2 .ensures .0 ∙ e)) _ (c .before .before .enter .ensures)
 
@@ -117,8 +126,8 @@ module _ (t : ℕ) where
   walk-returns-3 c =
       let at = c .before in
       let w = at .before .before .before .before in
-      let j = w .before .before in
-      let b = j .before .before .before .before in
+      let j = met w in
+      let b = passed j in
       let (ok, made) = start b .pre .1 in
       near-here _ ok _ made (apart b) _ _ _ (w .walk .ensures) (nearer j) (sym (at .focus-of2 .ensures .0) ∙ c .if3 .left)
 

@@ -1,5 +1,5 @@
 -- `text::line::next_line` meets its contract. Assumes nothing.
-use mathlib.Core.Path.{sym, ap}
+use mathlib.Core.Path.{refl, sym, ap}
 use lib.Seq.{length-take-le}
 use Rattle.text.specs.Lines.{lineOf}
 use Rattle.text.proofs.Leading.{no-end, bad-line, good-line}
@@ -11,7 +11,7 @@ find-byte-requires : tie.Need-find-byte-requires
 find-byte-requires c κs = search needs
 
 returns : tie.Need-returns
-returns c = no-end (c .before .find-byte .ensures) (c .if1 .taken)
+returns c = (no-end (c .before .find-byte .ensures) (c .if1 .taken), refl)
 
 slice-aggregate-read-line : tie.Need-slice-aggregate-read-line
 slice-aggregate-read-line c = sym (length-take-le _ _ (c .before .before .find-byte .ensures .inside))
@@ -26,13 +26,13 @@ enum-told : tie.Need-enum-told
 enum-told c = search needs
 
 returns-2 : tie.Need-returns-2
-returns-2 c = bad-line (c .before .before .before .before .before .find-byte .ensures) (c .before .before .read-line .ensures) (ap lineOf (c .enum-told .given .1))
+returns-2 c = (bad-line (c .before .before .before .before .before .find-byte .ensures) (c .before .before .read-line .ensures) (ap lineOf (c .enum-told .given .1)), refl)
 
 add-t4 : tie.Need-add-t4
 add-t4 c = search needs
 
 returns-3 : tie.Need-returns-3
-returns-3 c = good-line (c .before .before .before .before .before .before .find-byte .ensures) (c .before .before .before .read-line .ensures) (c .before .before .before .before .before .if1 .left) (ap lineOf (c .before .line .given .1))
+returns-3 c = (good-line (c .before .before .before .before .before .before .find-byte .ensures) (c .before .before .before .read-line .ensures) (c .before .before .before .before .before .if1 .left) (ap lineOf (c .before .line .given .1)), refl)
 
 pub next-line-spec : {M : Type 1} → statement M
 next-line-spec =
