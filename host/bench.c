@@ -1,5 +1,6 @@
-/* bench.c: each call of the library beside plain.c's, in one run. Times are
-   medians over interleaved rounds; a ratio is the median of the rounds' own. */
+/* bench.c: each call of the library beside plain.c's, in one run. Times are the
+   process's own, medians over interleaved rounds; a ratio is the median of the
+   rounds' own. With an argument: how cost grows with N. */
 #include "plain.h"
 #include "shape.h"
 
@@ -10,7 +11,7 @@
 
 enum { ROUNDS = 21, BATCH_NS = 500000 };
 
-/* ---- The two faces ---- */
+/* ---- The faces ---- */
 
 struct face {
     kn_answer (*open)(uint32_t, uint32_t, const uint8_t *, size_t, uint8_t *, size_t);
@@ -24,12 +25,12 @@ struct face {
     kn_answer (*back)(uint8_t *, size_t, uint8_t *, size_t);
 };
 
-static const struct face library = {
-    kn_open, kn_bind, kn_wind, kn_look, kn_peek, kn_set, kn_here, kn_goto, kn_back
-};
-static const struct face plain = {
-    pl_open, pl_bind, pl_wind, pl_look, pl_peek, pl_set, pl_here, pl_goto, pl_back
-};
+#define FACE(prefix)                                                      \
+    { prefix##_open, prefix##_bind, prefix##_wind, prefix##_look,         \
+      prefix##_peek, prefix##_set,  prefix##_here, prefix##_goto,         \
+      prefix##_back }
+
+static const struct face library = FACE(kn), plain = FACE(pl), loop = FACE(loop);
 
 /* ---- What is timed: one call on a store, which ends as it began ---- */
 
@@ -37,6 +38,7 @@ struct job {
     struct shape s;
     unsigned nodes, made, focus;
     unsigned other; /* where goto goes and peek asks */
+    unsigned x;     /* what look, peek and set ask for */
 };
 
 /* A call that makes or leaves one node changes the header, that node and its
@@ -113,7 +115,7 @@ static uint64_t run_look(const struct face *f, struct job *j, unsigned times)
     uint64_t total = 0;
 
     while (times-- > 0)
-        total = sum(total, f->look(j->s.store, j->s.len, 5));
+        total = sum(total, f->look(j->s.store, j->s.len, j->x));
     return total;
 }
 
@@ -122,8 +124,7 @@ static uint64_t run_peek(const struct face *f, struct job *j, unsigned times)
     uint64_t total = 0;
 
     while (times-- > 0)
-        total = sum(total, f->peek(j->s.store, j->s.len, j->other,
-                                   SHAPE_UNBOUND_BY_NODES));
+        total = sum(total, f->peek(j->s.store, j->s.len, j->other, j->x));
     return total;
 }
 
@@ -132,7 +133,7 @@ static uint64_t run_set(const struct face *f, struct job *j, unsigned times)
     uint64_t total = 0;
 
     while (times-- > 0)
-        total = sum(total, f->set(j->s.store, j->s.len, 5, 5));
+        total = sum(total, f->set(j->s.store, j->s.len, j->x, 5));
     return total;
 }
 
@@ -178,16 +179,16 @@ static uint64_t run_back(const struct face *f, struct job *j, unsigned times)
 
 typedef uint64_t (*run)(const struct face *, struct job *, unsigned);
 
-struct result { double library_ns, plain_ns, ratio; };
+struct result { double library_ns, rival_ns, ratio; };
 
 static double ns_of(run r, const struct face *f, struct job *j, unsigned times,
                     uint64_t *total)
 {
     struct timespec from, to;
 
-    clock_gettime(CLOCK_MONOTONIC, &from);
+    clock_gettime(CLOCK_PROCESS_CPUTIME_ID, &from);
     *total = r(f, j, times);
-    clock_gettime(CLOCK_MONOTONIC, &to);
+    clock_gettime(CLOCK_PROCESS_CPUTIME_ID, &to);
     return ((double)(to.tv_sec - from.tv_sec) * 1e9
             + (double)(to.tv_nsec - from.tv_nsec)) / times;
 }
@@ -204,37 +205,37 @@ static double median(double *of)
     return of[ROUNDS / 2];
 }
 
-static unsigned times_for(run r, struct job *j)
+static unsigned times_for(run r, const struct face *rival, struct job *j)
 {
     unsigned times = 2;
     uint64_t total;
 
-    while (ns_of(r, &plain, j, times, &total) * times < BATCH_NS)
+    while (ns_of(r, rival, j, times, &total) * times < BATCH_NS)
         times *= 2;
     return times;
 }
 
-static struct result measure(run r, struct job *j)
+static struct result measure(run r, const struct face *rival, struct job *j)
 {
-    double lib[ROUNDS], pl[ROUNDS], ratio[ROUNDS];
-    unsigned i, times = times_for(r, j);
+    double lib[ROUNDS], riv[ROUNDS], ratio[ROUNDS];
+    unsigned i, times = times_for(r, rival, j);
     uint64_t a, b;
     struct result result;
 
     for (i = 0; i < ROUNDS; i++) {
         if (i % 2 == 0)
             lib[i] = ns_of(r, &library, j, times, &a);
-        pl[i] = ns_of(r, &plain, j, times, &b);
+        riv[i] = ns_of(r, rival, j, times, &b);
         if (i % 2 != 0)
             lib[i] = ns_of(r, &library, j, times, &a);
-        ratio[i] = lib[i] / pl[i];
+        ratio[i] = lib[i] / riv[i];
         if (a != b) {
             puts("FAIL: the two give different answers");
             exit(1);
         }
     }
     result.library_ns = median(lib);
-    result.plain_ns = median(pl);
+    result.rival_ns = median(riv);
     result.ratio = median(ratio);
     return result;
 }
@@ -251,19 +252,33 @@ static const struct kind kinds[] = {
     { "chain", shape_chain, 0 }, { "bushy", shape_bushy, 2 }, { "empty", shape_empty, 0 }
 };
 
+/* A variable that is bound near the end of the chain, and one that nobody
+   binds. */
+enum { NEAR = 5, NOBODY = SHAPE_UNBOUND_BY_NODES };
+
 struct row {
     const char *name;
     run run;
+    const struct face *rival;
+    unsigned x;
     unsigned room; /* environments not made */
     int flipped;   /* focus and the other place exchanged */
 };
 
 static const struct row rows[] = {
-    { "open", run_open, 0, 0 }, { "bind", run_bind, 1, 0 },
-    { "wind", run_wind, 1, 0 }, { "look", run_look, 0, 0 },
-    { "peek in", run_peek, 0, 0 }, { "peek out", run_peek, 0, 1 },
-    { "set", run_set, 0, 0 }, { "here", run_here, 0, 0 },
-    { "goto", run_goto, 0, 0 }, { "back", run_back, 0, 0 }
+    { "open", run_open, &plain, 0, 0, 0 },
+    { "bind", run_bind, &plain, 0, 1, 0 },
+    { "wind", run_wind, &plain, 0, 1, 0 },
+    { "look", run_look, &plain, NEAR, 0, 0 },
+    { "look, nobody binds", run_look, &plain, NOBODY, 0, 0 },
+    { "peek in", run_peek, &plain, NOBODY, 0, 0 },
+    { "peek out", run_peek, &plain, NOBODY, 0, 1 },
+    { "set", run_set, &plain, NEAR, 0, 0 },
+    { "here", run_here, &plain, 0, 0, 0 },
+    { "goto", run_goto, &plain, 0, 0, 0 },
+    { "goto, plain loops", run_goto, &loop, 0, 0, 0 },
+    { "back", run_back, &plain, 0, 0, 0 },
+    { "back, plain loops", run_back, &loop, 0, 0, 0 }
 };
 
 enum { KINDS = sizeof kinds / sizeof kinds[0], ROWS = sizeof rows / sizeof rows[0] };
@@ -279,6 +294,7 @@ static void prepare(struct job *j, const struct kind *kind, const struct row *ro
     j->made = last + 1;
     j->focus = last;
     j->other = kind->far == 0 ? 0 : nodes - kind->far;
+    j->x = row->x;
     if (row->flipped) {
         shape_focus(&j->s, j->other);
         j->focus = j->other;
@@ -292,26 +308,44 @@ static double line(const struct kind *kind, const struct row *row, unsigned node
     struct result r;
 
     prepare(&job, kind, row, nodes);
-    r = measure(row->run, &job);
-    printf("%-6s %-9s %5u %11.0f %9.0f %6.2f\n", kind->name, row->name, nodes,
-           r.library_ns, r.plain_ns, r.ratio);
+    r = measure(row->run, row->rival, &job);
+    printf("%-6s %-18s %5u %11.0f %9.0f %6.2f\n", kind->name, row->name, nodes,
+           r.library_ns, r.rival_ns, r.ratio);
     return r.ratio;
 }
 
-int main(void)
+static void every_call(const struct kind *kind)
 {
-    double worst = 0;
-    unsigned k, r, nodes;
+    double worst = 0, beside_loops = 0;
+    unsigned r;
 
-    puts("store  call          N  library ns  plain ns  ratio");
-    for (k = 0; k < KINDS; k++)
-        for (r = 0; r < ROWS; r++) {
-            double ratio = line(&kinds[k], &rows[r], KN_MAX_NODES);
-            worst = ratio > worst ? ratio : worst;
-        }
-    printf("worst ratio: %.2f\n\nhow cost grows with N\n", worst);
+    for (r = 0; r < ROWS; r++) {
+        double *so_far = rows[r].rival == &loop ? &beside_loops : &worst;
+        double ratio = line(kind, &rows[r], KN_MAX_NODES);
+        *so_far = ratio > *so_far ? ratio : *so_far;
+    }
+    printf("worst ratio, %s: %.2f\n", kind->name, worst);
+    printf("worst ratio, %s, beside loops: %.2f\n", kind->name, beside_loops);
+}
+
+static void growth(void)
+{
+    unsigned r, nodes;
+
     for (r = 0; r < ROWS; r++)
         for (nodes = KN_MAX_NODES / 4; nodes <= KN_MAX_NODES; nodes *= 2)
             line(&kinds[0], &rows[r], nodes);
+}
+
+int main(int argc, char **argv)
+{
+    unsigned k;
+
+    (void)argv;
+    puts("store  call                   N  library ns  plain ns  ratio");
+    if (argc > 1)
+        growth();
+    for (k = 0; argc == 1 && k < KINDS; k++)
+        every_call(&kinds[k]);
     return 0;
 }

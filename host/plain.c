@@ -1,5 +1,6 @@
 /* plain.c: the contract of kestrelnib.h in plain C, the rival in the bench.
-   Same layout, the full soundness check on every call, the recursive walk. */
+   Same layout, the full soundness check on every call, the recursive walk; with
+   PLAIN_LOOP a walk by loops, which notes the path that it is to enter. */
 #include "plain.h"
 
 #include <string.h>
@@ -260,6 +261,27 @@ static void enter(struct walk *w, unsigned n)
     put16(w->store + 6, n);
 }
 
+#ifdef PLAIN_LOOP
+
+static void walk(struct walk *w, unsigned target)
+{
+    const uint8_t *node = w->nodes + (size_t)target * KN_NODE_BYTES;
+    uint16_t path[KN_MAX_NODES];
+    unsigned entered = 0;
+
+    while (is_out(node[0])) {
+        path[entered++] = (uint16_t)target;
+        target = parent_of(node);
+        node = w->nodes + (size_t)target * KN_NODE_BYTES;
+    }
+    while (focus_of(w->store) != target)
+        leave(w);
+    while (entered > 0)
+        enter(w, path[--entered]);
+}
+
+#else
+
 static void walk(struct walk *w, unsigned target)
 {
     const uint8_t *node = w->nodes + (size_t)target * KN_NODE_BYTES;
@@ -274,6 +296,8 @@ static void walk(struct walk *w, unsigned target)
         walk(w, target);
     }
 }
+
+#endif
 
 /* What a way costs: its moves, and its events. */
 struct way { unsigned moves, events; };

@@ -30,14 +30,14 @@
  *   stack. Stack by depth: goto and back take 48 bytes for each environment
  *   that they leave or enter, and at most 256 more; any other call takes at
  *   most 256. At the limits 25,864 + 10,235 + 98,512 = 134,611 bytes in all;
- *   several stores can share one trace and one stack. No call needs more than
- *   100 KiB of stack. (Measured on x86-64: docs/FIGURES.md.)
+ *   one trace and one stack can serve several stores in turn. No call needs
+ *   more than 100 KiB of stack. (Measured on x86-64: docs/FIGURES.md.)
  *
  * Time.  Every call but open first reads the whole store; that is how damage
- *   is found. So time grows with vars + nodes: on a PC, 26 KB of store take
- *   about 1 microsecond with only the top made, and about 12 with 2,047
- *   environments in one line, the focus at its end. Look and peek then climb
- *   to the binding that decides; goto and back also move.
+ *   is found. So time grows with vars + nodes: on an x86-64 PC, the 26 KB of
+ *   a store at the limits take about 1 microsecond with only the top made, and
+ *   about 12 with 2,047 environments in one line, the focus at its end. Look
+ *   and peek then climb to the binding that decides, and goto and back move.
  *
  * After DAMAGED.  The call changed nothing, and every call will say the same
  *   of these bytes. See first that pointer and length are those of the open.
