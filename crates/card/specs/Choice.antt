@@ -15,7 +15,7 @@ use Rattle.layout.specs.Same.{Bytes}
 use Rattle.demands.specs.NoChoice.{no-choice}
 use Rattle.text.specs.declared.line.Op.{Op}
 use Rattle.text.specs.Decimal.{whole}
-use Rattle.store.specs.Answers.{Numbers}
+use Rattle.promises.specs.Answers.{Numbers}
 use Rattle.print.specs.declared.Out.{Out}
 use Rattle.print.specs.declared.Out.the-variants.{None, Number, Value}
 use Rattle.print.specs.declared.Report.{Report}
@@ -76,7 +76,7 @@ module _ (s : List ℕ) where
 out-text : (o : Out) → Plain 0 o → outText o ≡ whole (outOf o)
 unfolding whole
 out-text None p = absurd p
-out-text (Number n) p = refl
+out-text (Number v) p = refl
 out-text (Value v by) p = refl
 
 out-one : (c : ℕ) (a b : Out) → Plain c a → Plain c b → outOf a ≡ outOf b → outText a ≡ outText b

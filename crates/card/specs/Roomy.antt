@@ -16,14 +16,14 @@ use Rattle.layout.specs.View.{viewF, view}
 use Rattle.layout.specs.Sound.{Sound}
 use Rattle.layout.specs.SoundLaws.{sound-view}
 use Rattle.layout.specs.Events.{eventsTo}
-use Rattle.store.specs.declared.Answer.{Answer}
-use Rattle.store.specs.Answers.{Numbers, numbers}
+use Rattle.promises.specs.declared.Answer.{Answer}
+use Rattle.promises.specs.Answers.{Numbers, numbers, flat}
 use Rattle.text.specs.declared.line.Op.{Op}
 use Rattle.print.specs.declared.Report.{Report}
-use Rattle.store.specs.Tables.{Applies}
-use Rattle.store.specs.Promises.{damagedRow, roomRow, roomFor, entering, SwitchDone, parentAt}
-use Rattle.card.specs.Running.{callOf, shown, Ran, reportOf, shows, keeps-number, plainly}
-use Rattle.demands.specs.Calls.{Promised, Called, called, Done, Code, is-done, is-refused, code-of, called-lowest, done-sound, table}
+use Rattle.promises.specs.Tables.{Applies}
+use Rattle.promises.specs.Promises.{damagedRow, roomRow, roomFor, entering, SwitchDone, parentAt}
+use Rattle.card.specs.Running.{callOf, shown, Ran, reportOf, shows, plainly}
+use Rattle.promises.specs.Calls.{Promised, Called, called, Done, Code, is-done, is-refused, code-of, called-lowest, done-sound, table}
 
 -- so many events, where the row of the room does not apply
 within : (t : List ℕ) (es : List Event) → (roomFor t < length es → ⊥) → length es * eventSize ≤ length t
@@ -60,8 +60,9 @@ module _ (s t s′ t′ : List ℕ) (n : Numbers) where
       go q (is-done e) = done-roomy c (done-sound q e) (q .done e) (λ k a. omega (arith, e, called-lowest c s t s′ t′ n q .least k (inr a)))
 
 -- the report of the call's answer
-pub ran : (k : ℕ) (o : Op) (s t s′ t′ : List ℕ) (a : Answer) (r : Report) → r ≡ reportOf k a → Promised (callOf o) s t s′ t′ (numbers a)
+pub ran : (k : ℕ) (o : Op) (s t s′ t′ : List ℕ) (a : Answer) (r : Report) → r ≡ reportOf k (flat (numbers a)) → Promised (callOf o) s t s′ t′ (numbers a)
     → Ran k o s t s′ t′ r × (r .events * eventSize ≤ length t)
+unfolding reportOf
 ran k o s t s′ t′ a r e p =
-    let q : Promised (callOf o) s t s′ t′ (shown (reportOf k a)) = rw (shows k a) p in
-    rw e (record { number = keeps-number k a; call = q; plain = plainly k a }, roomy s t s′ t′ (shown (reportOf k a)) (callOf o) q)
+    let q : Promised (callOf o) s t s′ t′ (shown (reportOf k (flat (numbers a)))) = rw (shows k a) p in
+    rw e (record { number = refl; call = q; plain = plainly k a }, roomy s t s′ t′ (shown (reportOf k (flat (numbers a)))) (callOf o) q)

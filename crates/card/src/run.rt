@@ -1,72 +1,41 @@
 // One operation of the card, run on the store: the call that it stands for, and what is printed of the answer.
 use print::Out;
 use print::Report;
-use store::Answer;
+use promises::Answer;
+use promises::Flat;
+use promises::numbers_of;
 use text::line::Op;
 ghost use mathlib.Core.Path.{_≡_};
 ghost use Prim.Native.Nat.{_*_, _≤_};
 ghost use lib.ListN.{length};
 ghost use Rattle.layout.specs.Limits.{eventSize};
-ghost use Rattle.print.specs.declared.Out.the-variants as Out;
-ghost use Rattle.card.specs.Running.{done, refused, reportOf, Ran};
+ghost use Rattle.promises.specs.Answers.{numbers, flat};
+ghost use Rattle.card.specs.Running.{outBy, reportOf, Ran};
 
-// Done, with a number.
-fn done(op: u32, n: u16, moves: u16, events: u16) -> Report
-    ensures { λ r. ⌜ r ≡ done op n moves events ⌝ }
+// What is printed as the answer: none on a refusal, else a number, or a value and its decider.
+fn answer_of(n: Flat) -> Out
+    ensures { λ r. ⌜ r ≡ outBy (n .code) (n .decided) (n .out) (n .by) ⌝ }
 {
-    Report {
-        op,
-        code: 0,
-        out: Out::Number(n as u32),
-        moves: moves as u32,
-        events: events as u32,
+    if n.code != 0 {
+        return Out::None;
     }
-}
-
-// Done, with a value and its decider.
-fn valued(op: u32, v: i32, by: u16) -> Report
-    ensures { λ r. ⌜ r ≡ record { op = op; code = 0; out = Out.Value v by; moves = 0; events = 0 } ⌝ }
-{
-    Report {
-        op,
-        code: 0,
-        out: Out::Value(v, by as u32),
-        moves: 0,
-        events: 0,
+    if n.decided {
+        return Out::Value(n.out, n.by as u32);
     }
-}
-
-// A refusal has no answer beside its number.
-fn refused(op: u32, code: u32) -> Report
-    ensures { λ r. ⌜ r ≡ refused op code ⌝ }
-{
-    Report {
-        op,
-        code,
-        out: Out::None,
-        moves: 0,
-        events: 0,
-    }
+    Out::Number(n.out)
 }
 
 // What is printed of an answer to the operation with this number.
 fn reported(op: u32, a: Answer) -> Report
-    ensures { λ r. ⌜ r ≡ reportOf op a ⌝ }
+    ensures { λ r. ⌜ r ≡ reportOf op (flat (numbers a)) ⌝ }
 {
-    match a {
-        Answer::Opened => done(op, 0, 0, 0),
-        Answer::Number(n) => done(op, n, 0, 0),
-        Answer::Made(m) => done(op, m.node, 0, m.events),
-        Answer::Value(v) => valued(op, v.value, v.by),
-        Answer::Switched(w) => done(op, w.focus, w.moves, w.events),
-        Answer::Setup => refused(op, 1),
-        Answer::Damaged => refused(op, 2),
-        Answer::NoVariable => refused(op, 3),
-        Answer::NoEnvironment => refused(op, 4),
-        Answer::Unbound => refused(op, 5),
-        Answer::Full => refused(op, 6),
-        Answer::TraceRoom => refused(op, 7),
-        Answer::Top => refused(op, 8),
+    let n = numbers_of(a);
+    Report {
+        op,
+        code: n.code as u32,
+        out: answer_of(n),
+        moves: n.moves as u32,
+        events: n.events as u32,
     }
 }
 

@@ -27,10 +27,10 @@ use Rattle.layout.specs.Events.{eventsB, told}
 use Rattle.layout.specs.SoundLaws.{sound-view}
 use Rattle.layout.specs.WalkLaws.{kept-self, focus-made}
 use Rattle.layout.specs.Events.{eventsTo}
-use Rattle.store.specs.Answers.{Numbers, seen}
-use Rattle.store.specs.Tables as tables
-use Rattle.store.specs.Promises.{meaning, at, byAt, roomFor, Shows, parentAt, SwitchDone}
-use Rattle.demands.specs.Calls.{table, Done, Called, Code, is-done, is-refused, code-of, table-rises, sound-first, done-leaves}
+use Rattle.promises.specs.Answers.{Numbers, seen}
+use Rattle.promises.specs.Tables as tables
+use Rattle.promises.specs.Promises.{meaning, at, byAt, roomFor, Shows, parentAt, SwitchDone}
+use Rattle.promises.specs.Calls.{table, Done, Called, Code, is-done, is-refused, code-of, table-rises, sound-first, done-leaves}
 use Rattle.demands.specs.Tests.{sizeAt, refusedAs, first-says, next-made, seen-numbered, table-says}
 use Rattle.demands.specs.Plain.{deep-one, plain-meaning, plain-changed, ranks-changed}
 

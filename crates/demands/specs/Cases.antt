@@ -28,10 +28,10 @@ use Rattle.layout.specs.Made.{IsFull}
 use Rattle.layout.specs.Events.{eventD, eventB, eventsB}
 use Rattle.layout.specs.Same.{part-take}
 use Rattle.layout.specs.Opening.{topCells}
-use Rattle.store.specs.Answers.{Numbers, refusal, seen}
-use Rattle.store.specs.Tables.{First}
-use Rattle.store.specs.Promises.{damagedRow, variableRow, fullRow, Openable, Opened, OpenPromise, BindPromise}
-use Rattle.demands.specs.Calls.{Promised, called, opens, opens-not}
+use Rattle.promises.specs.Answers.{Numbers, refusal, seen}
+use Rattle.promises.specs.Tables.{First}
+use Rattle.promises.specs.Promises.{damagedRow, variableRow, fullRow, Openable, Opened, OpenPromise, BindPromise}
+use Rattle.promises.specs.Calls.{Promised, called, opens, opens-not}
 use Rattle.demands.specs.NeverRead.{damaged-only, one-made}
 use Rattle.demands.specs.Runs.{Said, Session, saidBy, opened-session}
 

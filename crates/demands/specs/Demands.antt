@@ -35,10 +35,10 @@ use Rattle.layout.specs.RouteLaws.{events-none}
 use Rattle.layout.specs.WalkLaws.{kept-self, focus-made}
 use Rattle.layout.specs.Same.{Bytes, becomes-one}
 use Rattle.layout.specs.Opening.{topCells}
-use Rattle.store.specs.Answers.{Numbers, refusal, seen}
-use Rattle.store.specs.Tables.{Row, row, First, Applies, Lowest, Rising, first-exact, first-lowest, rising-above}
-use Rattle.store.specs.Promises.{meaning, at, byAt, roomFor, Answers, Shows, damagedRow, Openable, Opened, OpenPromise, Told, SwitchDone, parentAt, GotoPromise, BackPromise, LookPromise, PeekPromise}
-use Rattle.demands.specs.Calls.{Promised, table, Done, Called, called, done-sound, Code, is-done, is-refused, code-of, opens, table-rises, sound-first}
+use Rattle.promises.specs.Answers.{Numbers, refusal, seen}
+use Rattle.promises.specs.Tables.{Row, row, First, Applies, Lowest, Rising, first-exact, first-lowest, rising-above}
+use Rattle.promises.specs.Promises.{meaning, at, byAt, roomFor, Answers, Shows, damagedRow, Openable, Opened, OpenPromise, Told, SwitchDone, parentAt, GotoPromise, BackPromise, LookPromise, PeekPromise}
+use Rattle.promises.specs.Calls.{Promised, table, Done, Called, called, done-sound, Code, is-done, is-refused, code-of, opens, table-rises, sound-first}
 use Rattle.demands.specs.Tests.{sizeAt}
 use Rattle.demands.specs.AsAct.{AsAct, as-act, done-effect, told-none}
 use Rattle.demands.specs.NeverRead.{opened-value}

@@ -16,7 +16,7 @@ use Rattle.rules.specs.Moves.{Move, left, entered, Moves, done, move, May}
 use Rattle.layout.specs.Limits.{header, cellSize, nodeSize, cellAt, nodeAt}
 use Rattle.layout.specs.Bytes.{part, splice, u16, put16}
 use Rattle.layout.specs.Records.{vars, focus, headOf, withHead, withFocus, cellOf, withCell, bareC, putC, nodeOf, withNode, kindN, parentN, varN, storedN, turnN, swapN}
-use Rattle.layout.specs.Kinds.{byKind, leftKind, enteredKind, within}
+use Rattle.layout.specs.Kinds.{byKind, leftKind, enteredKind, within, node-high}
 use Rattle.layout.specs.Fields.{fieldsOf}
 use Rattle.layout.specs.View.{viewF, view}
 use Rattle.layout.specs.Sound.{Sound}
@@ -26,8 +26,8 @@ use Rattle.layout.specs.SoundLaws.{sound-view}
 use Rattle.layout.specs.MoveLaws.{leave-becomes, enter-becomes}
 use Rattle.layout.specs.WalkLaws.{kept-self, becomes-then, turns}
 use Rattle.layout.specs.Same.{Bytes, becomes-one}
-use Rattle.store.specs.Answers.{Numbers}
-use Rattle.store.specs.Promises.{SwitchDone}
+use Rattle.promises.specs.Answers.{Numbers}
+use Rattle.promises.specs.Promises.{SwitchDone}
 
 -- ---- a move keeps bytes bytes
 -- each number of a list is below 256, number by number
@@ -116,7 +116,7 @@ turn-each {s} n k h e =
     swapped = splice-each (cellAt x) cellSize each-t (put-each (part-each (cellAt x) cellSize each-t) (stored-each node))
 
 focus-each : {s : List ℕ} (f : ℕ) → f < 65536 → Each s → Each (withFocus s f)
-unfolding withFocus withHead headOf put16
+unfolding withHead headOf put16
 focus-each f h e = splice-each 0 header e (set-each 7 (omega arith) (set-each 6 (omega arith) (part-each 0 header e)))
 
 move-bytes : (s : List ℕ) (n k f : ℕ) → k < 256 → f < 65536 → Bytes s → Bytes (moveB s n k f)
@@ -181,7 +181,7 @@ module _ (s : List ℕ) where
       let out : view t .mode n ≡ false = w .modes n ∙ off-parent (view t .tree) (w .proper) n (focus t) e in
       let can : Turns t n = turns t ok n (focus t) e in (
         becomes-then h (enter-becomes t ok n e out) (ap (enter n) (h .seen)),
-        move-bytes t n (enteredKind (kindN (nodeOf t n))) n (omega (arith, can .high)) (omega (arith, can .below, can .fit .n)) b,
+        move-bytes t n (enteredKind (kindN (nodeOf t n))) n (omega (arith, node-high _ (can .node))) (omega (arith, can .below, can .fit .n)) b,
       )
 
   pub held : {v w : store.Store} {ms : List Move} (t : List ℕ) → Becomes s t v → Bytes t → (m : Moves v ms w) → Way (Held s) m

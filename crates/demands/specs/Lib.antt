@@ -1,6 +1,4 @@
 -- What follows from the promises of the store's calls. In the order to read:
-pub mod Stable
-pub mod Calls
 pub mod Tests
 pub mod Plain
 pub mod AsAct

@@ -32,10 +32,10 @@ use Rattle.layout.specs.SoundLaws.{what-top, what-blank, up-top, up-blank, Plac
 use Rattle.layout.specs.Same.{Bytes, same-meant, AgreeTo, agree-vars, agree-room, agree-view, agree-sound, agree-back}
 use Rattle.layout.specs.Opening.{topCells}
 use mathlib.Core.Logic.{inl}
-use Rattle.store.specs.Answers.{Numbers, refusal}
-use Rattle.store.specs.Tables.{first-one}
-use Rattle.store.specs.Promises.{meaning, at, roomFor, damagedRow, Opened, Openable, OpenPromise}
-use Rattle.demands.specs.Calls.{Promised, table, Called, called, Code, is-done, is-refused, code-of, done-sound, opens, opens-not}
+use Rattle.promises.specs.Answers.{Numbers, refusal}
+use Rattle.promises.specs.Tables.{first-one}
+use Rattle.promises.specs.Promises.{meaning, at, roomFor, damagedRow, Opened, Openable, OpenPromise}
+use Rattle.promises.specs.Calls.{Promised, table, Called, called, Code, is-done, is-refused, code-of, done-sound, opens, opens-not}
 use Rattle.demands.specs.Tests.{sizeAt}
 use Rattle.demands.specs.AsAct.{acted, numbersOf, AsAct, as-act}
 

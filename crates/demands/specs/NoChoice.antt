@@ -12,9 +12,9 @@ use Rattle.layout.specs.Records.{vars, room}
 use Rattle.layout.specs.Becomes.{Kept}
 use Rattle.layout.specs.WalkLaws.{kept-self}
 use Rattle.layout.specs.Same.{Bytes, same-whole}
-use Rattle.store.specs.Answers.{Numbers}
-use Rattle.store.specs.Promises.{OpenPromise, LookPromise, PeekPromise, HerePromise, SetPromise, BindPromise, WindPromise, GotoPromise, BackPromise}
-use Rattle.demands.specs.Calls.{Promised, Called, called, Code, is-done, is-refused, code-of, done-sound, done-leaves}
+use Rattle.promises.specs.Answers.{Numbers}
+use Rattle.promises.specs.Promises.{OpenPromise, LookPromise, PeekPromise, HerePromise, SetPromise, BindPromise, WindPromise, GotoPromise, BackPromise}
+use Rattle.promises.specs.Calls.{Promised, Called, called, Code, is-done, is-refused, code-of, done-sound, done-leaves}
 use Rattle.demands.specs.NeverRead.{Fate, both-refused, both-acted, fate, never-read, never-read-open}
 
 -- every call leaves the size, the length and the bytes past the size

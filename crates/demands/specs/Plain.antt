@@ -24,8 +24,8 @@ use Rattle.layout.specs.Sound.{Sound}
 use Rattle.layout.specs.SoundLaws.{sound-view}
 use Rattle.layout.specs.Same.{own-value, binding-up, others-blank}
 use Rattle.layout.specs.Reading.{top-up}
-use Rattle.store.specs.Tables as tables
-use Rattle.store.specs.Promises.{meaning}
+use Rattle.promises.specs.Tables as tables
+use Rattle.promises.specs.Promises.{meaning}
 use Rattle.demands.specs.Tests.{seen-numbered}
 
 -- nothing is stored but by bindings

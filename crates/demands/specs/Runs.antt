@@ -17,9 +17,9 @@ use Rattle.layout.specs.View.{viewF, view}
 use Rattle.layout.specs.Sound.{Sound}
 use Rattle.layout.specs.Events.{eventsB}
 use Rattle.layout.specs.Opening.{topCells}
-use Rattle.store.specs.Answers.{Numbers}
-use Rattle.store.specs.Promises.{meaning, at, roomFor, Opened}
-use Rattle.demands.specs.Calls.{Promised, called}
+use Rattle.promises.specs.Answers.{Numbers}
+use Rattle.promises.specs.Promises.{meaning, at, roomFor, Opened}
+use Rattle.promises.specs.Calls.{Promised, called}
 use Rattle.demands.specs.Tests.{sizeAt}
 use Rattle.demands.specs.Plain.{deep-one, plain-meaning}
 use Rattle.demands.specs.AsAct.{acted, numbersOf, AsAct, as-act}

@@ -30,10 +30,10 @@ use Rattle.layout.specs.CheckLaws.{says-eq, says-lt}
 use Rattle.layout.specs.WalkLaws.{made-seen, seen-made, focus-made}
 use Rattle.layout.specs.Events.{eventsTo}
 use Rattle.layout.specs.Reading.{top-up}
-use Rattle.store.specs.Tables as tables
-use Rattle.store.specs.Tables.{First, RisingFrom}
-use Rattle.store.specs.Promises.{meaning, at, roomFor, parentAt}
-use Rattle.demands.specs.Calls.{table}
+use Rattle.promises.specs.Tables as tables
+use Rattle.promises.specs.Tables.{First, RisingFrom}
+use Rattle.promises.specs.Promises.{meaning, at, roomFor, parentAt}
+use Rattle.promises.specs.Calls.{table}
 
 -- the V and N of a store
 unfoldable pub sizeAt : List ℕ → Size

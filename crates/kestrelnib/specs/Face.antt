@@ -5,7 +5,7 @@ use mathlib.Core.List.{List, [], _∷_}
 use lib.ListN.{getD}
 use Rattle.rules.specs.Basic.{orTop}
 use Rattle.layout.specs.Limits.{maxVars, maxNodes, header, cellSize, nodeSize, eventSize}
-use Rattle.store.specs.Answers.{Numbers}
+use Rattle.promises.specs.Answers.{Numbers}
 use Rattle.kestrelnib.specs.declared.Reply.{Reply}
 
 -- `by` is 0 where there is none: on a refusal, and from calls that answer no value

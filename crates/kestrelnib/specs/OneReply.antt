@@ -6,7 +6,7 @@ use Prim.Native.Nat.{ℕ}
 use mathlib.Core.List.{List}
 use lib.IntN.{ℤ}
 use Rattle.layout.specs.Same.{Bytes}
-use Rattle.store.specs.Promises.{OpenPromise, LookPromise, PeekPromise, HerePromise, SetPromise, BindPromise, WindPromise, GotoPromise, BackPromise}
+use Rattle.promises.specs.Promises.{OpenPromise, LookPromise, PeekPromise, HerePromise, SetPromise, BindPromise, WindPromise, GotoPromise, BackPromise}
 use Rattle.demands.specs.NoChoice.{open-one, bind-one, wind-one, look-one, peek-one, set-one, here-one, goto-one, back-one}
 use Rattle.kestrelnib.specs.declared.Reply.{Reply}
 use Rattle.kestrelnib.specs.Face.{Hands, hands-one}

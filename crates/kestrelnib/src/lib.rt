@@ -1,10 +1,10 @@
 // The C face: the nine calls for the firmware. Each hands its numbers and buffers on, and its answer back as one plain struct.
 ghost use mathlib.Core.Path.{_≡_};
-ghost use lib.IntN.{pos};
-ghost use Rattle.store.specs.Answers.{numbers};
-ghost use Rattle.store.specs.Promises.{OpenPromise, BindPromise, WindPromise, LookPromise, SetPromise, HerePromise, GotoPromise, BackPromise, PeekPromise};
+ghost use Rattle.promises.specs.Answers.{numbers};
+ghost use Rattle.promises.specs.Promises.{OpenPromise, BindPromise, WindPromise, LookPromise, SetPromise, HerePromise, GotoPromise, BackPromise, PeekPromise};
 ghost use Rattle.kestrelnib.specs.Face.{replyOf, Hands, limit};
-use store::Answer;
+use promises::Answer;
+use promises::numbers_of;
 
 // Document 01's numbers of an answer: the answer itself, its number, the moves, the number of events; of a value the decider.
 #[repr(C)]
@@ -16,62 +16,16 @@ pub struct Reply {
     pub by: u16,
 }
 
-// Done, with the number of an environment, 0 moves and 0 events or more.
-fn numbers_of(n: u16, moves: u16, events: u16) -> Reply
-    ensures { λ r. ⌜ r ≡ record { out = pos n; code = 0; moves = moves; events = events; by = 0 } ⌝ }
-{
-    Reply {
-        out: n as i32,
-        code: 0,
-        moves,
-        events,
-        by: 0,
-    }
-}
-
-// Done, with a value and its decider.
-fn value_of(v: i32, by: u16) -> Reply
-    ensures { λ r. ⌜ r ≡ record { out = v; code = 0; moves = 0; events = 0; by = by } ⌝ }
-{
-    Reply {
-        out: v,
-        code: 0,
-        moves: 0,
-        events: 0,
-        by,
-    }
-}
-
-// A refusal answers 0 beside its number.
-fn refused(code: u16) -> Reply
-    ensures { λ r. ⌜ r ≡ record { out = pos 0; code = code; moves = 0; events = 0; by = 0 } ⌝ }
-{
-    Reply {
-        out: 0,
-        code,
-        moves: 0,
-        events: 0,
-        by: 0,
-    }
-}
-
 fn numbered(a: Answer) -> Reply
     ensures { λ r. ⌜ r ≡ replyOf (numbers a) ⌝ }
 {
-    match a {
-        Answer::Opened => numbers_of(0, 0, 0),
-        Answer::Number(n) => numbers_of(n, 0, 0),
-        Answer::Made(m) => numbers_of(m.node, 0, m.events),
-        Answer::Value(v) => value_of(v.value, v.by),
-        Answer::Switched(w) => numbers_of(w.focus, w.moves, w.events),
-        Answer::Setup => refused(1),
-        Answer::Damaged => refused(2),
-        Answer::NoVariable => refused(3),
-        Answer::NoEnvironment => refused(4),
-        Answer::Unbound => refused(5),
-        Answer::Full => refused(6),
-        Answer::TraceRoom => refused(7),
-        Answer::Top => refused(8),
+    let n = numbers_of(a);
+    Reply {
+        out: n.out,
+        code: n.code,
+        moves: n.moves,
+        events: n.events,
+        by: n.by,
     }
 }
 

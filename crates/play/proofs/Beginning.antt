@@ -6,8 +6,8 @@ use native.Mathlib.Omega.{arith}
 use lib.ListN.{length, take}
 use lib.Seq.{take-at}
 use Rattle.layout.specs.Limits.{maxVars, maxNodes, bareSize, eventSize, sizeOf}
-use Rattle.store.specs.Answers.{Numbers}
-use Rattle.store.specs.Promises.{OpenPromise}
+use Rattle.promises.specs.Answers.{Numbers}
+use Rattle.promises.specs.Promises.{OpenPromise}
 use Rattle.text.specs.declared.line.Cell.{Cell}
 use Rattle.text.specs.declared.line.Line.{Line}
 use Rattle.text.specs.declared.line.Line.the-variants.{Vars, Nodes, Room, Top, Do}

@@ -7,8 +7,8 @@ use lib.ListN.{length}
 use Rattle.layout.specs.Limits.{eventSize, sizeOf}
 use Rattle.layout.specs.Bytes.{part}
 use Rattle.layout.specs.Events.{eventIn}
-use Rattle.store.specs.Answers.{Numbers}
-use Rattle.store.specs.Promises.{OpenPromise}
+use Rattle.promises.specs.Answers.{Numbers}
+use Rattle.promises.specs.Promises.{OpenPromise}
 use Rattle.text.specs.declared.line.Cell.{Cell}
 use Rattle.text.specs.declared.line.Op.{Op}
 use Rattle.print.specs.declared.Report.{Report}

@@ -1,14 +1,14 @@
 -- Lines of document 01's example, computed from the definitions. Assumes nothing.
 use mathlib.Core.Path.{_≡_, refl}
 use mathlib.Core.Bool.{true, false}
-use lib.IntN.{negsuc}
+use lib.IntN.{pos, negsuc}
 use Rattle.text.specs.Words.{bytes}
 use Rattle.text.specs.Decimal.{tens, decimal, whole}
 use Rattle.print.specs.declared.Out.the-variants.{None, Number, Value}
 use Rattle.print.specs.Printed.{opLine, eventLine, badLine}
 
-pub op-4 : opLine (record { op = 4; code = 0; out = Number 0; moves = 3; events = 1 }) ≡ bytes "op=4 code=0 out=0 moves=3 events=1 by=none\n"
-unfolding opLine decimal tens
+pub op-4 : opLine (record { op = 4; code = 0; out = Number (pos 0); moves = 3; events = 1 }) ≡ bytes "op=4 code=0 out=0 moves=3 events=1 by=none\n"
+unfolding opLine decimal whole tens
 op-4 = refl
 
 pub op-7 : opLine (record { op = 7; code = 0; out = Value (negsuc 0) 1; moves = 0; events = 0 }) ≡ bytes "op=7 code=0 out=-1 moves=0 events=0 by=1\n"

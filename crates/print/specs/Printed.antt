@@ -14,7 +14,7 @@ use Rattle.print.specs.declared.Report.{Report}
 -- the answer, and none on a refusal
 abbrev pub outText : Out → List ℕ
 outText None = bytes "none"
-outText (Number n) = decimal n
+outText (Number v) = whole v
 outText (Value v by) = whole v
 
 -- a word and a number behind it

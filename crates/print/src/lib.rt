@@ -21,7 +21,7 @@ impl Print {
 // What a call answers: nothing on a refusal, else a number, or a value and the number of its decider.
 pub enum Out {
     None,
-    Number(u32),
+    Number(i32),
     Value(i32, u32),
 }
 
@@ -64,7 +64,7 @@ fn put_out(o: Out, out: &mut [u8], at: usize) -> usize
 {
     match o {
         Out::None => put_text(b"none", out, at),
-        Out::Number(n) => put_natural(n, out, at),
+        Out::Number(n) => put_whole(n, out, at),
         Out::Value(v, _) => put_whole(v, out, at),
     }
 }

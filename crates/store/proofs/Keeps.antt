@@ -40,10 +40,12 @@ use Rattle.layout.specs.WalkLaws.{made-seen, focus-made}
 use Rattle.layout.specs.Reading.{binderOf, number-is, FoundAt, top-up, up-is}
 use Rattle.layout.specs.OpenLaws.{opens}
 use Rattle.layout.specs.GrowLaws.{set-becomes, bind-becomes, wind-becomes, can-grow, is-binding, is-wind}
-use Rattle.store.specs.declared.Answer.the-variants.{Opened, Number, Made, Switched, Setup, Damaged, NoVariable, NoEnvironment, Unbound, Full, TraceRoom, Top}
-use Rattle.store.specs.Answers.{Numbers, refusal, seen, numbers, ofCell}
-use Rattle.store.specs.Tables.{Row, row, First}
-use Rattle.store.specs.Promises.{meaning, at, byAt, Answers, Shows, damagedRow, variableRow, environmentRow, valueRow, fullRow, roomRow, topRow, roomFor, entering, parentAt, Openable, Switches, LookPromise, PeekPromise, HerePromise, SetPromise, BindPromise, WindPromise, GotoPromise, BackPromise, OpenPromise}
+use Rattle.promises.specs.declared.Answer.the-variants.{Opened, Number, Made, Switched, Refused}
+use Rattle.promises.specs.declared.Refusal.the-variants.{Setup, Damaged, NoVariable, NoEnvironment, Unbound, Full, TraceRoom, Top}
+use Rattle.promises.specs.Answers.{Numbers, refusal, seen, numbers}
+use Rattle.store.specs.Cells.{ofCell}
+use Rattle.promises.specs.Tables.{Row, row, First}
+use Rattle.promises.specs.Promises.{meaning, at, byAt, Answers, Shows, damagedRow, variableRow, environmentRow, valueRow, fullRow, roomRow, topRow, roomFor, entering, parentAt, Openable, Switches, LookPromise, PeekPromise, HerePromise, SetPromise, BindPromise, WindPromise, GotoPromise, BackPromise, OpenPromise}
 
 -- ---- row by row: this one applies, and nothing is changed; this one does not; none is left, and the call is done
 module _ {rs : List Row} {Same Done : Type 0} where
@@ -93,7 +95,7 @@ module _ (s : List ℕ) (a x : ℕ) (c : List ℕ) (n : ℕ) (is : at s a x ≡ 
           rw e (skip (bound v) (finish refl (toZ w32 (bitsC c), ap (seen (toZ w32 (bitsC c))) by-is, v)))
 
 -- ---- here and look
-pub here-damaged : (s : List ℕ) → (Sound s → ⊥) → HerePromise s s (numbers Damaged)
+pub here-damaged : (s : List ℕ) → (Sound s → ⊥) → HerePromise s s (numbers (Refused Damaged))
 unfolding numbers
 here-damaged s no-store = record { same = refl; answers = give (damagedRow s) no-store (omega arith) tt }
 
@@ -102,11 +104,11 @@ unfolding numbers
 here-done s ok f e = record { same = refl; answers = skip (λ h. h ok) (finish refl (ap (λ (g : ℕ). record { code = 0; out = pos g; moves = 0; events = 0; by = none }) e)) }
 
 module _ (s : List ℕ) (x : ℕ) where
-  pub look-damaged : (Sound s → ⊥) → LookPromise s x s (numbers Damaged)
+  pub look-damaged : (Sound s → ⊥) → LookPromise s x s (numbers (Refused Damaged))
   unfolding numbers
   look-damaged no-store = record { same = refl; answers = give (damagedRow s) no-store (omega arith) tt }
 
-  pub look-unknown : Sound s → vars s ≤ x → LookPromise s x s (numbers NoVariable)
+  pub look-unknown : Sound s → vars s ≤ x → LookPromise s x s (numbers (Refused NoVariable))
   unfolding numbers
   look-unknown ok l = record { same = refl; answers = skip (λ h. h ok) (give (variableRow s x) l (omega arith) tt) }
 
@@ -115,15 +117,15 @@ module _ (s : List ℕ) (x : ℕ) where
 
 -- ---- set
 module _ (s : List ℕ) (x : ℕ) (v : ℤ) where
-  pub set-damaged : (Sound s → ⊥) → SetPromise s x v s (numbers Damaged)
+  pub set-damaged : (Sound s → ⊥) → SetPromise s x v s (numbers (Refused Damaged))
   unfolding numbers
   set-damaged no-store = record { answers = give (damagedRow s) no-store (omega arith) refl }
 
-  pub set-unknown : Sound s → vars s ≤ x → SetPromise s x v s (numbers NoVariable)
+  pub set-unknown : Sound s → vars s ≤ x → SetPromise s x v s (numbers (Refused NoVariable))
   unfolding numbers
   set-unknown ok l = record { answers = skip (λ h. h ok) (give (variableRow s x) l (omega arith) refl) }
 
-  pub set-unbound : Sound s → x < vars s → getD (bareC (cellOf s x)) 0 0 ≡ 0 → SetPromise s x v s (numbers Unbound)
+  pub set-unbound : Sound s → x < vars s → getD (bareC (cellOf s x)) 0 0 ≡ 0 → SetPromise s x v s (numbers (Refused Unbound))
   unfolding numbers
   set-unbound ok l e =
       record { answers = skip (λ h. h ok) (skip (λ h. omega arith) (give (valueRow s (focus s) x) (at-focus s ok x l ∙ no-value _ e) (omega arith) refl)) }
@@ -143,15 +145,15 @@ module _ (s : List ℕ) (x : ℕ) (v : ℤ) where
 
 -- ---- bind
 module _ (s : List ℕ) (x : ℕ) (v : ℤ) where
-  pub bind-damaged : (Sound s → ⊥) → BindPromise s x v s (numbers Damaged)
+  pub bind-damaged : (Sound s → ⊥) → BindPromise s x v s (numbers (Refused Damaged))
   unfolding numbers
   bind-damaged no-store = record { answers = give (damagedRow s) no-store (omega arith) refl }
 
-  pub bind-unknown : Sound s → vars s ≤ x → BindPromise s x v s (numbers NoVariable)
+  pub bind-unknown : Sound s → vars s ≤ x → BindPromise s x v s (numbers (Refused NoVariable))
   unfolding numbers
   bind-unknown ok l = record { answers = skip (λ h. h ok) (give (variableRow s x) l (omega arith) refl) }
 
-  pub bind-full : Sound s → x < vars s → IsFull s → BindPromise s x v s (numbers Full)
+  pub bind-full : Sound s → x < vars s → IsFull s → BindPromise s x v s (numbers (Refused Full))
   unfolding numbers
   bind-full ok l h = record { answers = skip (λ h. h ok) (skip (λ h. omega arith) (give (fullRow s) h (omega arith) refl)) }
 
@@ -174,15 +176,15 @@ module _ (s : List ℕ) (x : ℕ) (v : ℤ) where
 
 -- ---- peek
 module _ (s : List ℕ) (a x : ℕ) where
-  pub peek-damaged : (Sound s → ⊥) → PeekPromise s a x s (numbers Damaged)
+  pub peek-damaged : (Sound s → ⊥) → PeekPromise s a x s (numbers (Refused Damaged))
   unfolding numbers
   peek-damaged no-store = record { same = refl; answers = give (damagedRow s) no-store (omega arith) tt }
 
-  pub peek-unknown : Sound s → vars s ≤ x → PeekPromise s a x s (numbers NoVariable)
+  pub peek-unknown : Sound s → vars s ≤ x → PeekPromise s a x s (numbers (Refused NoVariable))
   unfolding numbers
   peek-unknown ok l = record { same = refl; answers = skip (λ h. h ok) (give (variableRow s x) l (omega arith) tt) }
 
-  pub peek-unmade : Sound s → x < vars s → (IsMade s a → ⊥) → PeekPromise s a x s (numbers NoEnvironment)
+  pub peek-unmade : Sound s → x < vars s → (IsMade s a → ⊥) → PeekPromise s a x s (numbers (Refused NoEnvironment))
   unfolding numbers
   peek-unmade ok l h = record { same = refl; answers = skip (λ h. h ok) (skip (λ h. omega arith) (give (environmentRow s a) h (omega arith) tt)) }
 
@@ -193,15 +195,15 @@ module _ (s : List ℕ) (a x : ℕ) where
 
 -- ---- wind
 module _ (s t : List ℕ) (p q : ℕ) where
-  pub wind-damaged : (Sound s → ⊥) → WindPromise s t p q s t (numbers Damaged)
+  pub wind-damaged : (Sound s → ⊥) → WindPromise s t p q s t (numbers (Refused Damaged))
   unfolding numbers
   wind-damaged no-store = record { answers = give (damagedRow s) no-store (omega arith) (refl, refl) }
 
-  pub wind-full : Sound s → IsFull s → WindPromise s t p q s t (numbers Full)
+  pub wind-full : Sound s → IsFull s → WindPromise s t p q s t (numbers (Refused Full))
   unfolding numbers
   wind-full ok h = record { answers = skip (λ h. h ok) (give (fullRow s) h (omega arith) (refl, refl)) }
 
-  pub wind-no-room : Sound s → (IsFull s → ⊥) → roomFor t < 1 → WindPromise s t p q s t (numbers TraceRoom)
+  pub wind-no-room : Sound s → (IsFull s → ⊥) → roomFor t < 1 → WindPromise s t p q s t (numbers (Refused TraceRoom))
   unfolding numbers
   wind-no-room ok space h = record { answers = skip (λ h. h ok) (skip space (give (roomRow t (entering s p)) h (omega arith) (refl, refl))) }
 
@@ -228,7 +230,7 @@ module _ (s t : List ℕ) (a : ℕ) where
   abbrev Outcome : List ℕ → List ℕ → Numbers → Type 0
   Outcome s′ t′ n = Switches s t a s′ t′ (roomRow t (eventsTo s a) ∷ []) n
 
-  pub switch-no-room : roomFor t < length (eventsTo s a) → Outcome s t (numbers TraceRoom)
+  pub switch-no-room : roomFor t < length (eventsTo s a) → Outcome s t (numbers (Refused TraceRoom))
   unfolding numbers
   switch-no-room h = give (roomRow t (eventsTo s a)) h (omega arith) (refl, refl)
 
@@ -250,11 +252,11 @@ module _ (s t : List ℕ) (a : ℕ) where
       }))
 
 module _ (s t : List ℕ) (a : ℕ) where
-  pub goto-damaged : (Sound s → ⊥) → GotoPromise s t a s t (numbers Damaged)
+  pub goto-damaged : (Sound s → ⊥) → GotoPromise s t a s t (numbers (Refused Damaged))
   unfolding numbers
   goto-damaged no-store = record { answers = give (damagedRow s) no-store (omega arith) (refl, refl) }
 
-  pub goto-unmade : Sound s → (IsMade s a → ⊥) → GotoPromise s t a s t (numbers NoEnvironment)
+  pub goto-unmade : Sound s → (IsMade s a → ⊥) → GotoPromise s t a s t (numbers (Refused NoEnvironment))
   unfolding numbers
   goto-unmade ok h = record { answers = skip (λ h. h ok) (give (environmentRow s a) h (omega arith) (refl, refl)) }
 
@@ -262,7 +264,7 @@ module _ (s t : List ℕ) (a : ℕ) where
   goto-switched ok made h = record { answers = skip (λ h. h ok) (skip (λ h. h made) h) }
 
 module _ (s t : List ℕ) where
-  pub back-damaged : (Sound s → ⊥) → BackPromise s t s t (numbers Damaged)
+  pub back-damaged : (Sound s → ⊥) → BackPromise s t s t (numbers (Refused Damaged))
   unfolding numbers
   back-damaged no-store = record { answers = give (damagedRow s) no-store (omega arith) (refl, refl) }
 
@@ -275,7 +277,7 @@ module _ (s t : List ℕ) where
       ∙ ap (λ (o : Option ℕ). length (eventsFrom s 0 (orTop o))) none-up
       ∙ ap (λ (ms : List Move). length (trace (view s .tree) ms)) (route-self (view s .tree) (sound-view s ok .proper) 0)
 
-  pub back-top : Sound s → focus s ≡ 0 → BackPromise s t s t (numbers Top)
+  pub back-top : Sound s → focus s ≡ 0 → BackPromise s t s t (numbers (Refused Top))
   unfolding numbers
   back-top ok e = record { answers = skip (λ h. h ok) (skip (λ h. omega (arith, top-events ok e)) (give (topRow s) e (omega arith) (refl, refl))) }
 
@@ -291,7 +293,7 @@ module _ (s t : List ℕ) where
 
 -- ---- open
 module _ (v n : ℕ) (tops s : List ℕ) where
-  pub open-setup : (Openable v n tops s → ⊥) → OpenPromise v n tops s s (numbers Setup)
+  pub open-setup : (Openable v n tops s → ⊥) → OpenPromise v n tops s s (numbers (Refused Setup))
   unfolding numbers
   open-setup h = record { answers = give (row setup (Openable v n tops s → ⊥)) h (omega arith) refl }
 

@@ -1,4 +1,2 @@
--- What the store's calls promise, in document 01's words, and what its private functions cite.
-pub mod Answers
-pub mod Tables
-pub mod Promises
+-- What the store's private functions cite of answers.
+pub mod Cells

@@ -11,10 +11,16 @@ ghost use Rattle.layout.specs.Made.{IsMade, nextOf, IsFull};
 ghost use Rattle.layout.specs.Writes.{setB, bindB, windB};
 ghost use Rattle.layout.specs.Events.{told};
 ghost use Rattle.layout.specs.Events.{eventsTo};
-ghost use Rattle.store.specs.declared.Answer.the-variants as Answer;
-ghost use Rattle.store.specs.Answers.{numbers, ofCell};
-ghost use Rattle.store.specs.Promises.{entering, roomRow, Switches, Openable, OpenPromise, BindPromise, WindPromise, LookPromise, SetPromise, HerePromise, GotoPromise, BackPromise, PeekPromise};
+ghost use Rattle.promises.specs.declared.Answer.the-variants as Answer;
+ghost use Rattle.promises.specs.Answers.{numbers};
+ghost use Rattle.store.specs.Cells.{ofCell};
+ghost use Rattle.promises.specs.Promises.{entering, roomRow, Switches, Openable, OpenPromise, BindPromise, WindPromise, LookPromise, SetPromise, HerePromise, GotoPromise, BackPromise, PeekPromise};
 use layout::Store;
+use promises::Answer;
+use promises::New;
+use promises::Refusal;
+use promises::Seen;
+use promises::Switch;
 
 mod check;
 mod kinds;
@@ -26,49 +32,13 @@ mod read;
 mod records;
 mod trace;
 
-// A new environment, and the events of making it.
-pub struct New {
-    pub node: u16,
-    pub events: u16,
-}
-
-// A value, and the number of the environment whose binding decides it, 0 for the top value.
-pub struct Seen {
-    pub value: i32,
-    pub by: u16,
-}
-
-// A switch: the new focus, the moves and the number of events.
-pub struct Switch {
-    pub focus: u16,
-    pub moves: u16,
-    pub events: u16,
-}
-
-// What a call answers: a case for each kind of answer, then the refusals by their numbers.
-pub enum Answer {
-    Opened,
-    Number(u16),
-    Made(New),
-    Value(Seen),
-    Switched(Switch),
-    Setup,
-    Damaged,
-    NoVariable,
-    NoEnvironment,
-    Unbound,
-    Full,
-    TraceRoom,
-    Top,
-}
-
 // A cell as an answer: its value with the decider, or that it has none.
 fn answered(c: [u8; Store::BARE], by: usize) -> Answer
     requires { ⌜ by < 65536 ⌝ }
     ensures { λ r. ⌜ r ≡ ofCell c by ⌝ }
 {
     if c[0] == 0 {
-        return Answer::Unbound;
+        return Answer::Refused(Refusal::Unbound);
     }
     Answer::Value(Seen {
         value: number::value_of(c),
@@ -81,7 +51,7 @@ pub fn here(s: &[u8]) -> Answer
     ensures { λ r. ⌜ HerePromise (now (s .entry)) (now (s .exit)) (numbers r) ⌝ }
 {
     if !check::sound(s) {
-        return Answer::Damaged;
+        return Answer::Refused(Refusal::Damaged);
     }
     Answer::Number(records::focus_of(s) as u16)
 }
@@ -91,11 +61,11 @@ pub fn look(s: &[u8], x: u32) -> Answer
     ensures { λ r. ⌜ LookPromise (now (s .entry)) x (now (s .exit)) (numbers r) ⌝ }
 {
     if !check::sound(s) {
-        return Answer::Damaged;
+        return Answer::Refused(Refusal::Damaged);
     }
     let y = x as usize;
     if records::vars_of(s) <= y {
-        return Answer::NoVariable;
+        return Answer::Refused(Refusal::NoVariable);
     }
     let f = records::focus_of(s);
     let by = read::decider_of(s, f, y);
@@ -117,15 +87,15 @@ pub fn set(s: &mut [u8], x: u32, v: i32) -> Answer
     ensures { λ r. ⌜ SetPromise (now (s .entry)) x v (now (s .exit)) (numbers r) ⌝ }
 {
     if !check::sound(s) {
-        return Answer::Damaged;
+        return Answer::Refused(Refusal::Damaged);
     }
     let y = x as usize;
     if records::vars_of(s) <= y {
-        return Answer::NoVariable;
+        return Answer::Refused(Refusal::NoVariable);
     }
     let c = records::bare_of(records::cell(s, y));
     if c[0] == 0 {
-        return Answer::Unbound;
+        return Answer::Refused(Refusal::Unbound);
     }
     set_at(s, y, v)
 }
@@ -150,14 +120,14 @@ pub fn bind(s: &mut [u8], x: u32, v: i32) -> Answer
     ensures { λ r. ⌜ BindPromise (now (s .entry)) x v (now (s .exit)) (numbers r) ⌝ }
 {
     if !check::sound(s) {
-        return Answer::Damaged;
+        return Answer::Refused(Refusal::Damaged);
     }
     let y = x as usize;
     if records::vars_of(s) <= y {
-        return Answer::NoVariable;
+        return Answer::Refused(Refusal::NoVariable);
     }
     if made::is_full(s) {
-        return Answer::Full;
+        return Answer::Refused(Refusal::Full);
     }
     bind_at(s, y, v)
 }
@@ -167,15 +137,15 @@ pub fn peek(s: &[u8], a: u32, x: u32) -> Answer
     ensures { λ r. ⌜ PeekPromise (now (s .entry)) a x (now (s .exit)) (numbers r) ⌝ }
 {
     if !check::sound(s) {
-        return Answer::Damaged;
+        return Answer::Refused(Refusal::Damaged);
     }
     let y = x as usize;
     if records::vars_of(s) <= y {
-        return Answer::NoVariable;
+        return Answer::Refused(Refusal::NoVariable);
     }
     let b = a as usize;
     if !made::is_made(s, b) {
-        return Answer::NoEnvironment;
+        return Answer::Refused(Refusal::NoEnvironment);
     }
     let found = read::find(s, b, y);
     let c = found.cell;
@@ -203,13 +173,13 @@ pub fn wind(s: &mut [u8], t: &mut [u8], p: u16, q: u16) -> Answer
     ensures { λ r. ⌜ WindPromise (now (s .entry)) (now (t .entry)) p q (now (s .exit)) (now (t .exit)) (numbers r) ⌝ }
 {
     if !check::sound(s) {
-        return Answer::Damaged;
+        return Answer::Refused(Refusal::Damaged);
     }
     if made::is_full(s) {
-        return Answer::Full;
+        return Answer::Refused(Refusal::Full);
     }
     if t.len() / Store::EVENT < 1 {
-        return Answer::TraceRoom;
+        return Answer::Refused(Refusal::TraceRoom);
     }
     wind_at(s, t, p as usize, q as usize)
 }
@@ -223,7 +193,7 @@ fn switch_to(s: &mut [u8], t: &mut [u8], a: usize) -> Answer
     let meet = way.at;
     let events = way.events;
     if t.len() / Store::EVENT < events {
-        return Answer::TraceRoom;
+        return Answer::Refused(Refusal::TraceRoom);
     }
     trace::tell(s, t, a, meet, events);
     moves::walk(s, a);
@@ -239,11 +209,11 @@ pub fn goto(s: &mut [u8], t: &mut [u8], a: u32) -> Answer
     ensures { λ r. ⌜ GotoPromise (now (s .entry)) (now (t .entry)) a (now (s .exit)) (now (t .exit)) (numbers r) ⌝ }
 {
     if !check::sound(s) {
-        return Answer::Damaged;
+        return Answer::Refused(Refusal::Damaged);
     }
     let b = a as usize;
     if !made::is_made(s, b) {
-        return Answer::NoEnvironment;
+        return Answer::Refused(Refusal::NoEnvironment);
     }
     switch_to(s, t, b)
 }
@@ -253,11 +223,11 @@ pub fn back(s: &mut [u8], t: &mut [u8]) -> Answer
     ensures { λ r. ⌜ BackPromise (now (s .entry)) (now (t .entry)) (now (s .exit)) (now (t .exit)) (numbers r) ⌝ }
 {
     if !check::sound(s) {
-        return Answer::Damaged;
+        return Answer::Refused(Refusal::Damaged);
     }
     let f = records::focus_of(s);
     if f == 0 {
-        return Answer::Top;
+        return Answer::Refused(Refusal::Top);
     }
     let up = records::parent_of(s, f);
     switch_to(s, t, up)
@@ -290,7 +260,7 @@ pub fn open(v: u32, n: u32, tops: &[u8], s: &mut [u8]) -> Answer
     let vars = v as usize;
     let nodes = n as usize;
     if !openable(vars, nodes, tops, s) {
-        return Answer::Setup;
+        return Answer::Refused(Refusal::Setup);
     }
     opening::open_at(s, vars, nodes, tops);
     Answer::Opened

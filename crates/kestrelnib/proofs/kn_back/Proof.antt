@@ -1,5 +1,5 @@
 -- `kn_back` hands over: what it answers are the numbers of the answer of `back`. Assumes nothing.
-use Rattle.store.specs.Answers.{numbers}
+use Rattle.promises.specs.Answers.{numbers}
 use borrow.Author.Needs.{needs}
 use Rattle.kestrelnib.proofs.kn_back.Statement.{statement}
 use Rattle.kestrelnib.proofs.kn_back.Tie as tie

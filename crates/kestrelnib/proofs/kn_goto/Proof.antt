@@ -1,5 +1,5 @@
 -- `kn_goto` hands over: what it answers are the numbers of the answer of `goto`. Assumes nothing.
-use Rattle.store.specs.Answers.{numbers}
+use Rattle.promises.specs.Answers.{numbers}
 use borrow.Author.Needs.{needs}
 use Rattle.kestrelnib.proofs.kn_goto.Statement.{statement}
 use Rattle.kestrelnib.proofs.kn_goto.Tie as tie

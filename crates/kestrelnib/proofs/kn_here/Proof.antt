@@ -1,5 +1,5 @@
 -- `kn_here` hands over: what it answers are the numbers of the answer of `here`. Assumes nothing.
-use Rattle.store.specs.Answers.{numbers}
+use Rattle.promises.specs.Answers.{numbers}
 use borrow.Author.Needs.{needs}
 use Rattle.kestrelnib.proofs.kn_here.Statement.{statement}
 use Rattle.kestrelnib.proofs.kn_here.Tie as tie

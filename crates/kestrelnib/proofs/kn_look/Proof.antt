@@ -1,5 +1,5 @@
 -- `kn_look` hands over: what it answers are the numbers of the answer of `look`. Assumes nothing.
-use Rattle.store.specs.Answers.{numbers}
+use Rattle.promises.specs.Answers.{numbers}
 use borrow.Author.Needs.{needs}
 use Rattle.kestrelnib.proofs.kn_look.Statement.{statement}
 use Rattle.kestrelnib.proofs.kn_look.Tie as tie

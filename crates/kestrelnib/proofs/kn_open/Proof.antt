@@ -1,5 +1,5 @@
 -- `kn_open` hands over: what it answers are the numbers of the answer of `open`. Assumes nothing.
-use Rattle.store.specs.Answers.{numbers}
+use Rattle.promises.specs.Answers.{numbers}
 use borrow.Author.Needs.{needs}
 use Rattle.kestrelnib.proofs.kn_open.Statement.{statement}
 use Rattle.kestrelnib.proofs.kn_open.Tie as tie

@@ -1,7 +1,7 @@
 -- `kn_set` hands over: what it answers are the numbers of the answer of `set`. Assumes nothing.
 use mir.Syntax.{w32}
 use mir.ValLaws.{toZ-ofZ}
-use Rattle.store.specs.Answers.{numbers}
+use Rattle.promises.specs.Answers.{numbers}
 use borrow.Author.Needs.{needs}
 use Rattle.kestrelnib.proofs.kn_set.Statement.{statement}
 use Rattle.kestrelnib.proofs.kn_set.Tie as tie

@@ -22,14 +22,14 @@ put-text-requires c κs = search needs
 enum-known-o : tie.Need-enum-known-o
 enum-known-o c = search needs
 
-put-natural-requires : tie.Need-put-natural-requires
-put-natural-requires c κs = search needs
+put-whole-requires : tie.Need-put-whole-requires
+put-whole-requires c κs = search needs
 
 enum-known-o-2 : tie.Need-enum-known-o-2
 enum-known-o-2 c = search needs
 
-put-whole-requires : tie.Need-put-whole-requires
-put-whole-requires c κs = search needs
+put-whole-requires-2 : tie.Need-put-whole-requires-2
+put-whole-requires-2 c κs = search needs
 
 same-length : tie.Need-same-length
 same-length c = search needs
@@ -41,15 +41,18 @@ same-length-2 : tie.Need-same-length-2
 same-length-2 c = search needs
 
 returns-2 : tie.Need-returns-2
-returns-2 c = (reworded (ap outText (sym (c .before .before .before .before .before .o .given .1))) (c .before .before .put-natural .ensures .0), omega (arith, c .before .before .put-natural .ensures .1))
+returns-2 c = (
+  reworded (ap whole (toZ-ofZ w32 (c .before .before .before .before .before .o .given .0 .0) (record { sfits = c .before .before .before .before .known-told .given .0 .1 })) ∙ ap outText (sym (c .before .before .before .before .before .o .given .1))) (c .before .before .put-whole .ensures .0),
+  c .before .before .put-whole .ensures .1,
+)
 
 same-length-3 : tie.Need-same-length-3
 same-length-3 c = search needs
 
 returns-3 : tie.Need-returns-3
 returns-3 c = (
-  reworded (ap whole (toZ-ofZ w32 (c .before .before .before .before .before .o2 .given .0 .0) (record { sfits = c .before .before .before .before .known-told2 .given .0 .1 })) ∙ ap outText (sym (c .before .before .before .before .before .o2 .given .1))) (c .before .before .put-whole .ensures .0),
-  c .before .before .put-whole .ensures .1,
+  reworded (ap whole (toZ-ofZ w32 (c .before .before .before .before .before .o2 .given .0 .0) (record { sfits = c .before .before .before .before .known-told2 .given .0 .1 })) ∙ ap outText (sym (c .before .before .before .before .before .o2 .given .1))) (c .before .before .put-whole2 .ensures .0),
+  c .before .before .put-whole2 .ensures .1,
 )
 
 pub put-out-spec : {M : Type 1} → statement M
@@ -60,9 +63,9 @@ put-out-spec =
     slice-aggregate-put-text
     put-text-requires
     enum-known-o
-    put-natural-requires
-    enum-known-o-2
     put-whole-requires
+    enum-known-o-2
+    put-whole-requires-2
     same-length
     returns
     same-length-2

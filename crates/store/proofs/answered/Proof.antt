@@ -4,8 +4,8 @@ use mir.Syntax.{w32}
 use mir.ValLaws.{toZ-ofZ}
 use native.Mathlib.Omega.{arith}
 use borrow.Author.Tests.{eq-eqb, ne-eqb}
-use Rattle.store.specs.declared.Answer.the-variants.{Value}
-use Rattle.store.specs.Answers.{ofCell}
+use Rattle.promises.specs.declared.Answer.the-variants.{Value}
+use Rattle.store.specs.Cells.{ofCell}
 use borrow.Author.Needs.{needs}
 use Rattle.store.proofs.answered.Statement.{statement}
 use Rattle.store.proofs.answered.Tie as tie
@@ -20,8 +20,8 @@ returns c = rw (eq-eqb _ _ (c .if1 .taken))
 value-of-requires : tie.Need-value-of-requires
 value-of-requires c κs = search needs
 
-cast-t10 : tie.Need-cast-t10
-cast-t10 c = search needs
+cast-t11 : tie.Need-cast-t11
+cast-t11 c = search needs
 
 returns-2 : tie.Need-returns-2
 unfolding ofCell
@@ -30,4 +30,4 @@ returns-2 c =
     rw (ne-eqb _ _ (c .before .if1 .left)) (ap (λ (v : ℤ). Value (record { value = v; by = c .before .before .args .by })) value)
 
 pub answered-spec : {M : Type 1} → statement M
-answered-spec = tie.close (tie.spec array-read-if1 returns value-of-requires cast-t10 returns-2)
+answered-spec = tie.close (tie.spec array-read-if1 returns value-of-requires cast-t11 returns-2)

@@ -10,7 +10,7 @@ use Rattle.layout.specs.CheckLaws.{held, refuted}
 use Rattle.layout.specs.Made.{IsMade}
 use Rattle.layout.specs.WalkLaws.{focus-made}
 use Rattle.layout.specs.Reading.{fit-made, up-is, up-made}
-use Rattle.store.specs.Promises.{parentAt}
+use Rattle.promises.specs.Promises.{parentAt}
 use Rattle.store.proofs.Keeps.{back-damaged, back-top, back-switched, parent-at}
 use borrow.Author.Needs.{needs}
 use Rattle.store.proofs.back.Statement.{statement}

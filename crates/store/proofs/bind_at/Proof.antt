@@ -12,7 +12,7 @@ use Rattle.layout.specs.Writes.{setB, bindB}
 use Rattle.layout.specs.RecordLaws.{node-length}
 use Rattle.layout.specs.SoundLaws.{sound-fit}
 use Rattle.layout.specs.GrowLaws.{grown-fit, grown-vars}
-use Rattle.store.specs.declared.Answer.the-variants.{Made}
+use Rattle.promises.specs.declared.Answer.the-variants.{Made}
 use borrow.Author.Needs.{needs}
 use Rattle.store.proofs.bind_at.Statement.{statement}
 use Rattle.store.proofs.bind_at.Tie as tie

@@ -21,11 +21,11 @@ returns c = here-damaged _ (refuted (c .before .sound .result) (c .if1 .taken) (
 focus-of-requires : tie.Need-focus-of-requires
 focus-of-requires c κs = let fit = sound-fit _ (ok c) in omega (arith, fit .long)
 
-cast-t5 : tie.Need-cast-t5
-cast-t5 c = search needs
+cast-t6 : tie.Need-cast-t6
+cast-t6 c = search needs
 
 returns-2 : tie.Need-returns-2
 returns-2 c = here-done _ (ok (c .before)) (c .focus-of .result) (c .focus-of .ensures .0)
 
 pub here-spec : {M : Type 1} → statement M
-here-spec = tie.close (tie.spec sound-requires returns focus-of-requires cast-t5 returns-2)
+here-spec = tie.close (tie.spec sound-requires returns focus-of-requires cast-t6 returns-2)

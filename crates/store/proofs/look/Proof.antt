@@ -9,7 +9,7 @@ use Rattle.layout.specs.SoundLaws.{sound-fit}
 use Rattle.layout.specs.WalkLaws.{made-room, focus-made}
 use Rattle.layout.specs.CheckLaws.{held, refuted}
 use Rattle.layout.specs.Records.{bareC}
-use Rattle.store.specs.Answers.{ofCell}
+use Rattle.store.specs.Cells.{ofCell}
 use Rattle.store.proofs.Keeps.{look-damaged, look-unknown, look-shown}
 use borrow.Author.Needs.{needs}
 use Rattle.store.proofs.look.Statement.{statement}

@@ -1,7 +1,7 @@
 -- `open` keeps its promise: Setup where it is not openable, else the bytes of an opened store. Assumes nothing.
 use mathlib.Core.Path.{refl}
 use Rattle.layout.specs.CheckLaws.{held, refuted}
-use Rattle.store.specs.Promises.{Openable}
+use Rattle.promises.specs.Promises.{Openable}
 use Rattle.store.proofs.Keeps.{open-setup, open-done}
 use borrow.Author.Needs.{needs}
 use Rattle.store.proofs.open.Statement.{statement}

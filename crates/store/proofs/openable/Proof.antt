@@ -5,7 +5,7 @@ use native.Mathlib.Omega.{arith}
 use borrow.Author.Tests.{ltb-true, ltb-false}
 use Rattle.layout.specs.Records.{ProperCell, topC}
 use Rattle.layout.specs.CheckLaws.{says-map}
-use Rattle.store.specs.Promises.{Openable}
+use Rattle.promises.specs.Promises.{Openable}
 use borrow.Author.Needs.{needs}
 use Rattle.store.proofs.openable.Statement.{statement}
 use Rattle.store.proofs.openable.Tie as tie

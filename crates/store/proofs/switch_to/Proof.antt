@@ -3,7 +3,7 @@ use native.Mathlib.Omega.{arith}
 use Rattle.layout.specs.SoundLaws.{sound-fit}
 use Rattle.layout.specs.WalkLaws.{made-room}
 use Rattle.layout.specs.RouteLaws.{few-moves, few-events}
-use Rattle.store.specs.Promises.{roomFor}
+use Rattle.promises.specs.Promises.{roomFor}
 use Rattle.store.proofs.Keeps.{switch-no-room, switch-done}
 use borrow.Author.Needs.{needs}
 use Rattle.store.proofs.switch_to.Statement.{statement}
@@ -35,17 +35,17 @@ tell-requires c κs = search needs
 walk-requires : tie.Need-walk-requires
 walk-requires c κs = search needs
 
-cast-t19 : tie.Need-cast-t19
-cast-t19 c = let (ok, made) = start (told (walked (c .before .before))) .pre in record { fits = omega (arith, made-room _ ok _ made, sound-fit _ ok .n) }
-
 cast-t20 : tie.Need-cast-t20
-cast-t20 c =
+cast-t20 c = let (ok, made) = start (told (walked (c .before .before))) .pre in record { fits = omega (arith, made-room _ ok _ made, sound-fit _ ok .n) }
+
+cast-t21 : tie.Need-cast-t21
+cast-t21 c =
     let survey = told (walked (c .before .before .before)) in
     let (ok, made) = start survey .pre in
     record { fits = omega (arith, survey .survey .ensures .1 .0, few-moves _ ok _ made) }
 
-cast-t21 : tie.Need-cast-t21
-cast-t21 c =
+cast-t22 : tie.Need-cast-t22
+cast-t22 c =
     let survey = told (walked (c .before .before .before)) in
     let (ok, made) = start survey .pre in
     record { fits = omega (arith, survey .survey .ensures .1 .1, few-events _ ok _ made) }
@@ -75,9 +75,9 @@ switch-to-spec =
     returns
     tell-requires
     walk-requires
-    cast-t19
     cast-t20
     cast-t21
+    cast-t22
     same-length-2
     same-length-3
     returns-2)

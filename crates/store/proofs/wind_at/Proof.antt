@@ -7,8 +7,8 @@ use Rattle.layout.specs.Records.{focus}
 use Rattle.layout.specs.Writes.{windB}
 use Rattle.layout.specs.Events.{eventD}
 use Rattle.layout.specs.EventLaws.{told-first, told-entered}
-use Rattle.store.specs.declared.Answer.the-variants.{Made}
-use Rattle.store.specs.Promises.{entering}
+use Rattle.promises.specs.declared.Answer.the-variants.{Made}
+use Rattle.promises.specs.Promises.{entering}
 use borrow.Author.Needs.{needs}
 use Rattle.store.proofs.wind_at.Statement.{statement}
 use Rattle.store.proofs.wind_at.Tie as tie

@@ -1,0 +1,62 @@
+-- Document 01, "The numbers a call can give back": the number and the values of every answer; document 02, W2: the decider of a
+-- value. Assumes nothing: these are definitions.
+use Prim.Native.Nat.{ℕ}
+use mathlib.Core.Bool.{Bool, true, false}
+use mathlib.Core.Option.{Option, none, some}
+use lib.IntN.{ℤ, pos}
+use Rattle.rules.specs.Basic.{orTop}
+use Rattle.promises.specs.declared.New.{New}
+use Rattle.promises.specs.declared.Seen.{Seen}
+use Rattle.promises.specs.declared.Switch.{Switch}
+use Rattle.promises.specs.declared.Answer.{Answer}
+use Rattle.promises.specs.declared.Answer.the-variants.{Opened, Number, Made, Value, Switched, Refused}
+use Rattle.promises.specs.declared.Refusal.{Refusal}
+use Rattle.promises.specs.declared.Refusal.the-variants.{Setup, Damaged, NoVariable, NoEnvironment, Unbound, Full, TraceRoom, Top}
+use Rattle.promises.specs.declared.Flat.{Flat}
+use Rattle.rules.specs.Refusals.{setup, damaged, noVariable, noEnvironment, noValue, full, traceRoom, atTop}
+
+-- the number of the answer, the answer itself, the moves, the number of events; for a value the number of the environment whose
+-- binding decides it, 0 for the top value
+pub record Numbers : Type 0 where
+  pub code : ℕ
+  pub out : ℤ
+  pub moves : ℕ
+  pub events : ℕ
+  pub by : Option ℕ
+
+-- a refusal answers 0 beside its number
+abbrev pub refusal : ℕ → Numbers
+refusal n = record { code = n; out = pos 0; moves = 0; events = 0; by = none }
+
+abbrev pub done : ℤ → ℕ → ℕ → Numbers
+done o m e = record { code = 0; out = o; moves = m; events = e; by = none }
+
+abbrev pub seen : ℤ → ℕ → Numbers
+seen v by = record { code = 0; out = v; moves = 0; events = 0; by = some by }
+
+-- the number of each refusal
+abbrev pub numberOf : Refusal → ℕ
+numberOf Setup = setup
+numberOf Damaged = damaged
+numberOf NoVariable = noVariable
+numberOf NoEnvironment = noEnvironment
+numberOf Unbound = noValue
+numberOf Full = full
+numberOf TraceRoom = traceRoom
+numberOf Top = atTop
+
+unfoldable pub numbers : Answer → Numbers
+numbers Opened = done (pos 0) 0 0
+numbers (Number n) = done (pos n) 0 0
+numbers (Made m) = done (pos (m .node)) 0 (m .events)
+numbers (Value v) = seen (v .value) (v .by)
+numbers (Switched w) = done (pos (w .focus)) (w .moves) (w .events)
+numbers (Refused r) = refusal (numberOf r)
+
+-- the same with a plain number for the decider, 0 where there is none, and whether there is one
+abbrev pub isSome : Option ℕ → Bool
+isSome none = false
+isSome (some n) = true
+
+unfoldable pub flat : Numbers → Flat
+flat n = record { out = n .out; code = n .code; moves = n .moves; events = n .events; by = orTop (n .by); decided = isSome (n .by) }
