@@ -6,6 +6,7 @@ use native.Mathlib.Omega.{arith}
 use lib.ListN.{length, drop}
 use Rattle.layout.specs.Limits.{eventSize}
 use Rattle.layout.specs.Bytes.{part}
+use Rattle.layout.specs.Same.{Bytes}
 use Rattle.text.specs.declared.line.Op.{Op}
 use Rattle.text.specs.declared.line.Line.{Line}
 use Rattle.text.specs.declared.line.Line.the-variants.{Do}
@@ -23,9 +24,9 @@ use Rattle.play.proofs.Lines.{at-end, is-missing, is-found}
 
 -- ---- one operation more
 pub runs-more : {k k′ : ℕ} {o : Op} {os rest : List Op} {s t s′ t′ s″ t″ text : List ℕ} {r : Report} → Runs k os s t text k′ (o ∷ rest) s′ t′
-    → Ran (k′ + 1) o s′ t′ s″ t″ r → Runs k os s t (text ++ opText r t″) (k′ + 1) rest s″ t″
-runs-more {t″ = t″} {r = r} stay q = rw (← append-nil (opText r t″)) (step q stay)
-runs-more {t″ = t″} {r = r} (step {t′ = u} {text = x} {r = p} f g) q = rw (append-assoc (opText p u) x (opText r t″)) (step f (runs-more g q))
+    → Ran (k′ + 1) o s′ t′ s″ t″ r → Bytes s″ → Runs k os s t (text ++ opText r t″) (k′ + 1) rest s″ t″
+runs-more {t″ = t″} {r = r} stay q b = rw (← append-nil (opText r t″)) (step q b stay)
+runs-more {t″ = t″} {r = r} (step {t′ = u} {text = x} {r = p} f a g) q b = rw (append-assoc (opText p u) x (opText r t″)) (step f a (runs-more g q b))
 
 -- ---- one event more
 events-next : (t : List ℕ) (i n : ℕ) → 0 < n → eventsText t i n ≡ eventText (part t (eventSize * i) eventSize) ++ eventsText t (i + 1) (n - 1)
@@ -81,7 +82,7 @@ module _ {card : List ℕ} {text : List ℕ} {p : Progress} {s t : List ℕ} (f 
 
     module _ {l : Line} {n : ℕ} {o : Op} {s′ t′ : List ℕ} {r : Report} (good : next ≡ Next.Good l n)
         (found : Finds (Leads (drop (p .at) card)) (nextOf next)) (is : l ≡ Do o) (none-left : p .left ≡ 0)
-        (ran : Ran (p .number + 1) o s t s′ t′ r) where
+        (ran : Ran (p .number + 1) o s t s′ t′ r) (memory : Bytes s′) where
       pub run-next : (u : ℕ) → SoFar card (text ++ opLine r) (record { at = p .at + n; number = p .number + 1; told = 0; left = r .events; used = u }) s′ t′
       run-next u = go (f .rest) (f .ahead) (f .runs)
         where
@@ -103,5 +104,5 @@ module _ {card : List ℕ} {text : List ℕ} {p : Progress} {s t : List ℕ} (f 
                 ahead = is-found card (p .at) good found a .1;
                 runs = subst (λ (x : List ℕ). Runs 0 (f .ops) (f .store) (f .trace) x (p .number + 1) os s′ t′) (op-line text r t′)
                     (runs-more (subst (λ (y : List ℕ). Runs 0 (f .ops) (f .store) (f .trace) y (p .number) (x ∷ os) s t) line g)
-                    (subst (λ (y : Op). Ran (p .number + 1) y s t s′ t′ r) same ran));
+                    (subst (λ (y : Op). Ran (p .number + 1) y s t s′ t′ r) same ran) memory);
               }

@@ -10,6 +10,7 @@ use lib.ListN.{length, take, drop, length-append, length-drop}
 use lib.Seq.{length-take-le}
 use Rattle.layout.specs.Limits.{eventSize}
 use Rattle.layout.specs.Bytes.{part}
+use Rattle.layout.specs.Same.{Bytes}
 use Rattle.text.specs.declared.line.Op.{Op}
 use Rattle.text.specs.declared.line.Line.{Line}
 use Rattle.text.specs.declared.line.Line.the-variants.{Do}
@@ -63,9 +64,9 @@ module _ {card : List ℕ} {p : Progress} {t page : List ℕ} (ready : Ready car
   -- an operation's
   pub op-puts : {next : Next} {l : Line} {n : ℕ} {o : Op} {s s′ t′ page′ : List ℕ} {r : Report} {u : ℕ} → next ≡ Next.Good l n
       → Finds (Leads (drop (p .at) card)) (nextOf next) → l ≡ Do o → p .at < length card → p .left ≡ 0 → Ran (p .number + 1) o s t s′ t′ r
-      → r .events * eventSize ≤ length t → length t′ ≡ length t → Wrote page (p .used) (opLine r) page′ u → length page′ ≡ length page
+      → Bytes s′ → r .events * eventSize ≤ length t → length t′ ≡ length t → Wrote page (p .used) (opLine r) page′ u → length page′ ≡ length page
       → Puts card p s t page (record { at = p .at + n; number = p .number + 1; told = 0; left = r .events; used = u }) s′ t′ page′
-  op-puts {next} {l} {n} {o} {s} {s′} {t′} {page′} {r} {u} e f is h none ran room same w long =
+  op-puts {next} {l} {n} {o} {s} {s′} {t′} {page′} {r} {u} e f is h none ran memory room same w long =
       let m : (0 < n) × (p .at + n ≤ length card) = lines.within card (p .at) e f (ready .inside) in
       record {
         ready = record {
@@ -79,7 +80,7 @@ module _ {card : List ℕ} {p : Progress} {t page : List ℕ} (ready : Ready car
         within = within (omega arith) w long;
         line = opLine r;
         wrote = w;
-        next = λ x g. run-next g h e f is none ran u;
+        next = λ x g. run-next g h e f is none ran memory u;
       }
 
 -- ---- a page

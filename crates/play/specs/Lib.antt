@@ -1,3 +1,4 @@
--- What a card prints, and how far its run has come.
+-- What a card prints, how far its run has come, and that the text leaves no choice.
 pub mod Output
 pub mod Steps
+pub mod Choice

@@ -7,6 +7,7 @@ use lib.ListN.{length}
 use Rattle.layout.specs.Limits.{eventSize, sizeOf}
 use Rattle.layout.specs.Bytes.{part}
 use Rattle.layout.specs.Events.{eventIn}
+use Rattle.layout.specs.Same.{Bytes}
 use Rattle.promises.specs.Answers.{Numbers}
 use Rattle.promises.specs.Promises.{OpenPromise}
 use Rattle.text.specs.declared.line.Cell.{Cell}
@@ -33,10 +34,10 @@ unfoldable pub opText : Report → List ℕ → List ℕ
 opText r t = opLine r ++ eventsText t 0 (r .events)
 
 -- ---- operations one after the other: from the store s and the trace t, with k operations before them, os are run until rest is left,
--- and print the text
+-- and print the text; what a call leaves is bytes, as memory is
 pub data Runs : ℕ → List Op → List ℕ → List ℕ → List ℕ → ℕ → List Op → List ℕ → List ℕ → Type 0 where
   stay : {k : ℕ} {os : List Op} {s t : List ℕ} → Runs k os s t [] k os s t
-  step : {k k′ : ℕ} {o : Op} {os rest : List Op} {s t s′ t′ s″ t″ text : List ℕ} {r : Report} → Ran (k + 1) o s t s′ t′ r
+  step : {k k′ : ℕ} {o : Op} {os rest : List Op} {s t s′ t′ s″ t″ text : List ℕ} {r : Report} → Ran (k + 1) o s t s′ t′ r → Bytes s′
       → Runs (k + 1) os s′ t′ text k′ rest s″ t″ → Runs k (o ∷ os) s t (opText r t′ ++ text) k′ rest s″ t″
 
 -- ---- a whole card

@@ -43,7 +43,7 @@ pub enum Handed {
     Lost,
 }
 
-// The only function that writes: the text, which stands in the card's output at the place from.
+// The only function that writes: the text, which stands in the card's output at the place from (for which the card is handed in).
 fn hand(card: &[u8], from: usize, text: &[u8], fd: i32) -> Handed
     requires { ⌜ Stands (now card) from (now text) × (from + length (now text) < 2 ^ 64) ⌝ }
     ensures { λ r. ⌜ HandedOn (from + length (now (text .entry))) r ⌝ }
