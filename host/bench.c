@@ -30,7 +30,18 @@ struct face {
       prefix##_peek, prefix##_set,  prefix##_here, prefix##_goto,         \
       prefix##_back }
 
-static const struct face library = FACE(kn), plain = FACE(pl), loop = FACE(loop);
+static const struct face library = FACE(kn);
+
+struct rival { const char *name; struct face face; };
+
+/* Goto and back have three: the recursive walk as it is compiled, the walk by
+   loops, and the recursive walk with every call kept a call. */
+enum { PLAIN, RECURSIVE, LOOPS, KEPT, RIVALS };
+
+static const struct rival rivals[RIVALS] = {
+    { "", FACE(pl) }, { ", recursive", FACE(pl) }, { ", loops", FACE(loop) },
+    { ", calls kept", FACE(kept) }
+};
 
 /* ---- What is timed: one call on a store, which ends as it began ---- */
 
@@ -259,29 +270,32 @@ enum { NEAR = 5, NOBODY = SHAPE_UNBOUND_BY_NODES };
 struct row {
     const char *name;
     run run;
-    const struct face *rival;
+    unsigned rival;
     unsigned x;
     unsigned room; /* environments not made */
     int flipped;   /* focus and the other place exchanged */
 };
 
 static const struct row rows[] = {
-    { "open", run_open, &plain, 0, 0, 0 },
-    { "bind", run_bind, &plain, 0, 1, 0 },
-    { "wind", run_wind, &plain, 0, 1, 0 },
-    { "look", run_look, &plain, NEAR, 0, 0 },
-    { "look, nobody binds", run_look, &plain, NOBODY, 0, 0 },
-    { "peek in", run_peek, &plain, NOBODY, 0, 0 },
-    { "peek out", run_peek, &plain, NOBODY, 0, 1 },
-    { "set", run_set, &plain, NEAR, 0, 0 },
-    { "here", run_here, &plain, 0, 0, 0 },
-    { "goto", run_goto, &plain, 0, 0, 0 },
-    { "goto, plain loops", run_goto, &loop, 0, 0, 0 },
-    { "back", run_back, &plain, 0, 0, 0 },
-    { "back, plain loops", run_back, &loop, 0, 0, 0 }
+    { "open", run_open, PLAIN, 0, 0, 0 },
+    { "bind", run_bind, PLAIN, 0, 1, 0 },
+    { "wind", run_wind, PLAIN, 0, 1, 0 },
+    { "look", run_look, PLAIN, NEAR, 0, 0 },
+    { "look, nobody binds", run_look, PLAIN, NOBODY, 0, 0 },
+    { "peek in", run_peek, PLAIN, NOBODY, 0, 0 },
+    { "peek out", run_peek, PLAIN, NOBODY, 0, 1 },
+    { "set", run_set, PLAIN, NEAR, 0, 0 },
+    { "here", run_here, PLAIN, 0, 0, 0 },
+    { "goto", run_goto, RECURSIVE, 0, 0, 0 },
+    { "goto", run_goto, LOOPS, 0, 0, 0 },
+    { "goto", run_goto, KEPT, 0, 0, 0 },
+    { "back", run_back, RECURSIVE, 0, 0, 0 },
+    { "back", run_back, LOOPS, 0, 0, 0 },
+    { "back", run_back, KEPT, 0, 0, 0 }
 };
 
 enum { KINDS = sizeof kinds / sizeof kinds[0], ROWS = sizeof rows / sizeof rows[0] };
+enum { NAME_WIDTH = 18 };
 
 static void prepare(struct job *j, const struct kind *kind, const struct row *row,
                     unsigned nodes)
@@ -308,24 +322,25 @@ static double line(const struct kind *kind, const struct row *row, unsigned node
     struct result r;
 
     prepare(&job, kind, row, nodes);
-    r = measure(row->run, row->rival, &job);
-    printf("%-6s %-18s %5u %11.0f %9.0f %6.2f\n", kind->name, row->name, nodes,
+    r = measure(row->run, &rivals[row->rival].face, &job);
+    printf("%-6s %s%-*s %5u %11.0f %9.0f %6.2f\n", kind->name, row->name,
+           (int)(NAME_WIDTH - strlen(row->name)), rivals[row->rival].name, nodes,
            r.library_ns, r.rival_ns, r.ratio);
     return r.ratio;
 }
 
 static void every_call(const struct kind *kind)
 {
-    double worst = 0, beside_loops = 0;
+    double worst[RIVALS] = { 0 };
     unsigned r;
 
     for (r = 0; r < ROWS; r++) {
-        double *so_far = rows[r].rival == &loop ? &beside_loops : &worst;
         double ratio = line(kind, &rows[r], KN_MAX_NODES);
-        *so_far = ratio > *so_far ? ratio : *so_far;
+        if (ratio > worst[rows[r].rival])
+            worst[rows[r].rival] = ratio;
     }
-    printf("worst ratio, %s: %.2f\n", kind->name, worst);
-    printf("worst ratio, %s, beside loops: %.2f\n", kind->name, beside_loops);
+    for (r = 0; r < RIVALS; r++)
+        printf("worst ratio, %s%s: %.2f\n", kind->name, rivals[r].name, worst[r]);
 }
 
 static void growth(void)

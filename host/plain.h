@@ -1,5 +1,6 @@
-/* plain.h: the calls of kestrelnib.h as plain.c gives them, prefix pl_; the
-   bench has them too as built with PLAIN_LOOP, prefix loop_. */
+/* plain.h: the calls of kestrelnib.h as plain.c gives them, prefix pl_. The
+   bench has two more of it: built with PLAIN_LOOP, prefix loop_, and with every
+   call kept a call, prefix kept_. */
 #ifndef PLAIN_H
 #define PLAIN_H
 
@@ -29,5 +30,6 @@
 
 PLAIN_CALLS(pl);
 PLAIN_CALLS(loop);
+PLAIN_CALLS(kept);
 
 #endif
