@@ -4,8 +4,8 @@ use crate::model;
 use crate::model::SPACE;
 use crate::model::Says;
 use layout::Store;
-use store::Answer;
-use store::Seen;
+use promises::Answer;
+use promises::numbers_of;
 
 fn cut32(n: usize) -> u32 {
     (n % 4_294_967_296) as u32
@@ -41,42 +41,19 @@ fn unsigned(v: i32) -> u32 {
     }
 }
 
-fn says(code: usize, out: usize, moves: usize, events: usize) -> Says {
-    Says {
-        code,
-        out,
-        moves,
-        events,
-        by: model::NO_ONE,
-    }
-}
-
-fn seen(v: Seen) -> Says {
-    Says {
-        code: 0,
-        out: wide32(unsigned(v.value)),
-        moves: 0,
-        events: 0,
-        by: wide(v.by),
-    }
-}
-
 // The store's answer as document 01's numbers.
 pub(crate) fn told(r: Answer) -> Says {
-    match r {
-        Answer::Opened => says(0, 0, 0, 0),
-        Answer::Number(n) => says(0, wide(n), 0, 0),
-        Answer::Made(n) => says(0, wide(n.node), 0, wide(n.events)),
-        Answer::Value(v) => seen(v),
-        Answer::Switched(w) => says(0, wide(w.focus), wide(w.moves), wide(w.events)),
-        Answer::Setup => says(1, 0, 0, 0),
-        Answer::Damaged => says(2, 0, 0, 0),
-        Answer::NoVariable => says(3, 0, 0, 0),
-        Answer::NoEnvironment => says(4, 0, 0, 0),
-        Answer::Unbound => says(5, 0, 0, 0),
-        Answer::Full => says(6, 0, 0, 0),
-        Answer::TraceRoom => says(7, 0, 0, 0),
-        Answer::Top => says(8, 0, 0, 0),
+    let n = numbers_of(r);
+    let mut by = model::NO_ONE;
+    if n.decided {
+        by = wide(n.by);
+    }
+    Says {
+        code: wide(n.code),
+        out: wide32(unsigned(n.out)),
+        moves: wide(n.moves),
+        events: wide(n.events),
+        by,
     }
 }
 

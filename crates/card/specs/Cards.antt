@@ -74,8 +74,12 @@ abbrev pub StopsAt : List ℕ → ℕ → Type 0
 StopsAt s zero = maxBytes < length s
 StopsAt s (suc n) = (length s ≤ maxBytes) × Breaks Whole s n
 
+-- a card that is run
+abbrev pub Passes : List ℕ → Type 0
+Passes s = (length s ≤ maxBytes) × Made Whole s
+
 -- what the check answers: 0 for a good card; for any other 9, with the line that stops it
 pub record Checked (s : List ℕ) (r : Ruling) : Type 0 where
   pub known : (r ≡ passed) ⊎ (r ≡ stopped (r .line))
-  pub good : r .code ≡ 0 → (length s ≤ maxBytes) × Made Whole s
+  pub good : r .code ≡ 0 → Passes s
   pub bad : r .code ≡ noLine → StopsAt s (r .line)

@@ -13,8 +13,7 @@ use Rattle.text.specs.declared.line.Line.{Line}
 use Rattle.text.specs.declared.line.Line.the-variants.{Vars, Nodes, Room, Top, Do}
 use Rattle.text.specs.Every.{All}
 use Rattle.text.specs.Lines.{InRange}
-use Rattle.card.specs.declared.check.Verdict.the-variants.{Good}
-use Rattle.card.specs.Cards.{Whole, Made, Checked, text}
+use Rattle.card.specs.Cards.{Whole, Made, Passes, text}
 use Rattle.play.specs.declared.reading.Heads.{Heads}
 use Rattle.play.specs.declared.reading.Headed.{Headed}
 use Rattle.play.specs.declared.reading.Headed.the-variants as Headed
@@ -38,7 +37,7 @@ module _ {ls : List Line} (w : Whole ls) where
   few-events = ranges .1 .1 .0
 
 -- the headings of a good card, read
-pub heads-begun : {card : List ℕ} (g : Checked card Good) (r : Headed) (h : Heads) → r ≡ Headed.Good h
+pub heads-begun : {card : List ℕ} (g : Passes card) (r : Headed) (h : Heads) → r ≡ Headed.Good h
     → ((v n m : ℕ) (ls : List Line) → Ahead card 0 (Vars v ∷ Nodes n ∷ Room m ∷ ls) → Reads card v n m ls r)
     → (tops store trace : ℕ) → bareSize * maxVars ≤ tops → sizeOf maxVars maxNodes ≤ store → eventSize * maxNodes ≤ trace + eventSize
     → Begun card h tops store trace

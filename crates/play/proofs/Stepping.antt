@@ -21,8 +21,7 @@ use Rattle.text.specs.Lines.{written, Leads, nextOf}
 use Rattle.print.specs.declared.Report.{Report}
 use Rattle.print.specs.Printed.{opLine, badLine, longest}
 use Rattle.print.specs.Writing.{Wrote}
-use Rattle.card.specs.declared.check.Verdict.the-variants.{Bad}
-use Rattle.card.specs.Cards.{Checked, text}
+use Rattle.card.specs.Cards.{StopsAt, text}
 use Rattle.card.specs.Running.{Ran}
 use Rattle.play.specs.declared.Handed.{Handed}
 use Rattle.play.specs.declared.Handed.the-variants as Handed
@@ -208,7 +207,7 @@ module _ {card : List ℕ} {p q : Progress} {s t s′ t′ page : List ℕ} (f :
         }
 
 -- a bad card's one line
-pub bad-stands : {card x : List ℕ} (n : ℕ) → Checked card (Bad n) → x ≡ badLine n → Stands card 0 x
+pub bad-stands : {card x : List ℕ} (n : ℕ) → StopsAt card n → x ≡ badLine n → Stands card 0 x
 bad-stands {card} {x} n h e =
     record { before = []; behind = []; rest = []; place = refl; prints = subst (λ (y : List ℕ). Prints card [] y) (sym (append-nil x ∙ e)) (bad n h) }
 

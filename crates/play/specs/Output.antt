@@ -14,8 +14,7 @@ use Rattle.text.specs.declared.line.Cell.{Cell}
 use Rattle.text.specs.declared.line.Op.{Op}
 use Rattle.print.specs.declared.Report.{Report}
 use Rattle.print.specs.Printed.{opLine, eventLine, badLine}
-use Rattle.card.specs.declared.check.Verdict.the-variants.{Good, Bad}
-use Rattle.card.specs.Cards.{Whole, Made, Checked}
+use Rattle.card.specs.Cards.{Whole, Made, Passes, StopsAt}
 use Rattle.card.specs.Tops.{cellB}
 use Rattle.card.specs.Running.{Ran}
 
@@ -48,7 +47,7 @@ topsB (c ∷ cs) = cellB c ++ topsB cs
 
 -- a good card's operations begin with the store s as open leaves it in a buffer that is long enough, and a trace t of the card's room
 pub record Begins (card : List ℕ) (ops : List Op) (s t : List ℕ) : Type 0 where
-  pub good : Checked card Good
+  pub good : Passes card
   pub operations : ops ≡ good .1 .whole .ops
   pub buffer : List ℕ
   pub long : sizeOf (good .1 .whole .vars) (good .1 .whole .nodes) ≤ length buffer
@@ -58,7 +57,7 @@ pub record Begins (card : List ℕ) (ops : List Op) (s t : List ℕ) : Type 0 wh
 
 -- the text is what the card prints until the operations rest are left; with none left it is the whole output
 pub data Prints (card : List ℕ) : List Op → List ℕ → Type 0 where
-  bad : (n : ℕ) → Checked card (Bad n) → Prints card [] (badLine n)
+  bad : (n : ℕ) → StopsAt card n → Prints card [] (badLine n)
   good : {k : ℕ} {ops rest : List Op} {s t s′ t′ text : List ℕ} → Begins card ops s t → Runs 0 ops s t text k rest s′ t′ → Prints card rest text
 
 -- the text stands in the card's output, from the place at on

@@ -13,8 +13,7 @@ use Rattle.text.specs.declared.line.Line.the-variants.{Vars, Nodes, Room, Top, 
 use Rattle.text.specs.Every.{All}
 use Rattle.text.specs.Limits.{maxBytes}
 use Rattle.text.specs.Lines.{InRange}
-use Rattle.card.specs.declared.check.Verdict.the-variants.{Good}
-use Rattle.card.specs.Cards.{Whole, Made, Checked, text}
+use Rattle.card.specs.Cards.{Whole, Made, Passes, text}
 use Rattle.print.specs.Writing.{Wrote}
 use Rattle.play.specs.declared.Handed.{Handed}
 use Rattle.play.specs.declared.Handed.the-variants as Handed
@@ -89,7 +88,7 @@ pub record Fills (card : List ℕ) (p : Progress) (s t : List ℕ) (q : Progress
 -- ---- writing
 -- what is behind the headings may begin, on buffers of these lengths
 pub record Begun (card : List ℕ) (h : Heads) (tops store trace : ℕ) : Type 0 where
-  pub good : Checked card Good
+  pub good : Passes card
   pub vars : h .vars ≡ good .1 .whole .vars
   pub nodes : h .nodes ≡ good .1 .whole .nodes
   pub room : h .room ≡ good .1 .whole .room

@@ -18,11 +18,9 @@ use print::Print;
 use print::put_bad;
 ghost use mathlib.Core.Path.{_≡_};
 ghost use mathlib.Core.List.{[]};
-ghost use Prim.Native.Nat.{_+_, _*_, _≤_, _<_, _^_};
+ghost use Prim.Native.Nat.{_+_, _<_, _^_};
 ghost use lib.ListN.{length};
-ghost use Rattle.layout.specs.Limits.{eventSize};
-ghost use Rattle.card.specs.declared.check.Verdict.the-variants as Verdict;
-ghost use Rattle.card.specs.Cards.{Checked};
+ghost use Rattle.card.specs.Cards.{Passes, StopsAt};
 ghost use Rattle.play.specs.Output.{Stands};
 ghost use Rattle.play.specs.Steps.{Ready, SoFar, Begun, HandedOn, AllOf};
 
@@ -101,7 +99,7 @@ fn run_in(
 
 // A good card, run on buffers that are large enough for any.
 fn run_card(card: &[u8], fd: i32) -> Handed
-    requires { ⌜ Checked (now card) Verdict.Good ⌝ }
+    requires { ⌜ Passes (now card) ⌝ }
     ensures { λ r. ⌜ AllOf (now (card .entry)) r ⌝ }
 {
     let Headed::Good(heads) = read_heads(card) else {
@@ -115,7 +113,7 @@ fn run_card(card: &[u8], fd: i32) -> Handed
 
 // The one line of a card that is no good.
 fn refuse(card: &[u8], line: u32, fd: i32) -> Handed
-    requires { ⌜ Checked (now card) (Verdict.Bad line) ⌝ }
+    requires { ⌜ StopsAt (now card) line ⌝ }
     ensures { λ r. ⌜ AllOf (now (card .entry)) r ⌝ }
 {
     let mut text = [0u8; Print::LINE];

@@ -17,7 +17,7 @@ enum-known-line : tie.Need-enum-known-line
 enum-known-line c = search needs
 
 refuse-requires : tie.Need-refuse-requires
-refuse-requires c κs = rw (c .before .line .given .1) at (c .before .before .before .check .ensures)
+refuse-requires c κs = (rw (c .before .line .given .1) at (c .before .before .before .check .ensures .0)) .bad refl
 
 returns : tie.Need-returns
 returns c = (c .run-card .ensures, refl)
