@@ -64,7 +64,7 @@ pub fn look(s: &[u8], x: u32) -> Answer
         return Answer::Refused(Refusal::Damaged);
     }
     let y = x as usize;
-    if records::vars_of(s) <= y {
+    if !made::is_known(s, y) {
         return Answer::Refused(Refusal::NoVariable);
     }
     let f = records::focus_of(s);
@@ -90,7 +90,7 @@ pub fn set(s: &mut [u8], x: u32, v: i32) -> Answer
         return Answer::Refused(Refusal::Damaged);
     }
     let y = x as usize;
-    if records::vars_of(s) <= y {
+    if !made::is_known(s, y) {
         return Answer::Refused(Refusal::NoVariable);
     }
     let c = records::bare_of(records::cell(s, y));
@@ -123,7 +123,7 @@ pub fn bind(s: &mut [u8], x: u32, v: i32) -> Answer
         return Answer::Refused(Refusal::Damaged);
     }
     let y = x as usize;
-    if records::vars_of(s) <= y {
+    if !made::is_known(s, y) {
         return Answer::Refused(Refusal::NoVariable);
     }
     if made::is_full(s) {
@@ -140,7 +140,7 @@ pub fn peek(s: &[u8], a: u32, x: u32) -> Answer
         return Answer::Refused(Refusal::Damaged);
     }
     let y = x as usize;
-    if records::vars_of(s) <= y {
+    if !made::is_known(s, y) {
         return Answer::Refused(Refusal::NoVariable);
     }
     let b = a as usize;

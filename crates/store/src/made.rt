@@ -1,10 +1,10 @@
-// Which numbers are environments, which comes next, and when there is no room; and a new node, made and entered.
+// Which numbers are variables and environments, which comes next, and when there is no room; and a new node, made and entered.
 ghost use mathlib.Core.Path.{_≡_};
 ghost use mathlib.Core.Bool.{Bool, true, false};
 ghost use mathlib.Core.List.{List};
 ghost use Prim.Native.Nat.{ℕ, _+_, _<_, _≤_};
 ghost use lib.ListN.{length};
-ghost use Rattle.layout.specs.Records.{made, room, focus, nodeB};
+ghost use Rattle.layout.specs.Records.{vars, made, room, focus, nodeB};
 ghost use Rattle.layout.specs.Sound.{Says, Sound};
 ghost use Rattle.layout.specs.Made.{IsMade, nextOf, IsFull};
 ghost use Rattle.layout.specs.Writes.{growB};
@@ -14,6 +14,7 @@ use crate::records::room_of;
 use crate::records::set_focus;
 use crate::records::set_made;
 use crate::records::set_node;
+use crate::records::vars_of;
 use layout::Store;
 
 pub(crate) fn is_made(s: &[u8], a: usize) -> bool
@@ -21,6 +22,14 @@ pub(crate) fn is_made(s: &[u8], a: usize) -> bool
     ensures { λ r. ⌜ Says r (IsMade (now (s .entry)) a) ⌝ }
 {
     a < made_of(s)
+}
+
+// x is a variable of the store.
+pub(crate) fn is_known(s: &[u8], x: usize) -> bool
+    requires { ⌜ Sound (now s) ⌝ }
+    ensures { λ r. ⌜ Says r (x < vars (now (s .entry))) ⌝ }
+{
+    x < vars_of(s)
 }
 
 pub(crate) fn next_of(s: &[u8]) -> usize

@@ -21,7 +21,7 @@ ok c = held (c .before .sound .result) (c .if1 .left) (c .before .sound .ensures
 
 -- past the second the variable is known
 known : (c : tie.Else2) → c .before .before .before .before .before .args .x < vars (c .before .before .before .before .before .args .s .now)
-known c = omega (arith, c .before .vars-of .ensures .0)
+known c = held (c .before .is-known .result) (c .if2 .left) (c .before .is-known .ensures)
 
 sound-requires : tie.Need-sound-requires
 sound-requires c κs = search needs
@@ -29,11 +29,11 @@ sound-requires c κs = search needs
 returns : tie.Need-returns
 returns c = look-damaged _ _ (refuted (c .before .sound .result) (c .if1 .taken) (c .before .sound .ensures))
 
-vars-of-requires : tie.Need-vars-of-requires
-vars-of-requires c κs = let fit = sound-fit _ (ok c) in omega (arith, fit .long)
+is-known-requires : tie.Need-is-known-requires
+is-known-requires c κs = ok c
 
 returns-2 : tie.Need-returns-2
-returns-2 c = look-unknown _ _ (ok (c .before .before)) (omega (arith, c .before .vars-of .ensures .0))
+returns-2 c = let no = refuted (c .before .is-known .result) (c .if2 .taken) (c .before .is-known .ensures) in look-unknown _ _ (ok (c .before .before)) (omega arith)
 
 focus-of-requires : tie.Need-focus-of-requires
 focus-of-requires c κs = let fit = sound-fit _ (ok (c .before .before)) in omega (arith, fit .long)
@@ -65,7 +65,7 @@ look-spec =
     (tie.spec
     sound-requires
     returns
-    vars-of-requires
+    is-known-requires
     returns-2
     focus-of-requires
     decider-of-requires

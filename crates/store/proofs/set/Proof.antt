@@ -20,7 +20,7 @@ ok c = held (c .before .sound .result) (c .if1 .left) (c .before .sound .ensures
 
 -- past the second the variable is known
 known : (c : tie.Else2) → c .before .before .before .before .before .before .before .args .x < vars (c .before .before .before .before .before .before .before .args .s .now)
-known c = omega (arith, c .before .vars-of .ensures .0)
+known c = held (c .before .is-known .result) (c .if2 .left) (c .before .is-known .ensures)
 
 -- the bare cell that was read is that of x
 shown : (c : tie.After-bare-of) → c .bare-of .result ≡ bareC (cellOf (c .before .before .before .before .before .before .before .before .before .before .args .s .now) (c .before .before .before .before .before .before .before .before .before .before .args .x))
@@ -35,14 +35,14 @@ same-length c = search needs
 returns : tie.Need-returns
 returns c = set-damaged _ _ _ (refuted (c .before .sound .result) (c .if1 .taken) (c .before .sound .ensures))
 
-vars-of-requires : tie.Need-vars-of-requires
-vars-of-requires c κs = let fit = sound-fit _ (ok (c .before)) in omega (arith, fit .long)
+is-known-requires : tie.Need-is-known-requires
+is-known-requires c κs = ok (c .before)
 
 same-length-2 : tie.Need-same-length-2
 same-length-2 c = search needs
 
 returns-2 : tie.Need-returns-2
-returns-2 c = set-unknown _ _ _ (ok (c .before .before .before)) (omega (arith, c .before .vars-of .ensures .0))
+returns-2 c = let no = refuted (c .before .is-known .result) (c .if2 .taken) (c .before .is-known .ensures) in set-unknown _ _ _ (ok (c .before .before .before)) (omega arith)
 
 cell-requires : tie.Need-cell-requires
 cell-requires c κs = (sound-fit _ (ok (c .before .before .before .before)), known (c .before))
@@ -78,7 +78,7 @@ set-spec =
     sound-requires
     same-length
     returns
-    vars-of-requires
+    is-known-requires
     same-length-2
     returns-2
     cell-requires
