@@ -4,8 +4,8 @@ use mathlib.Core.List.{List, [], _∷_, _++_, append-assoc}
 use Prim.Native.Nat.{ℕ, suc, _+_, _<_}
 use native.Mathlib.Numerals.{add-one}
 use native.Mathlib.Omega.{arith}
-use lib.ListN.{length, take, drop, set, take-append-drop}
-use lib.Seq.{take-suc-set, drop-set-lt}
+use lib.ListN.{length, take, drop, set, take-append-drop, length-append}
+use lib.Seq.{take-suc-set, take-set-le, drop-set-lt, drop-cons, getD-set-same, lt-length-set}
 use Rattle.print.specs.Writing.{Wrote}
 
 -- what the buffer is to hold in the end, with a text still to be written at p
@@ -17,6 +17,13 @@ stored out b todo p h =
     let e : p + 1 + length todo ≡ p + suc (length todo) = omega arith in
     let g : p < p + suc (length todo) = omega arith in
     rw (e, drop-set-lt (p + suc (length todo)) out p b g, add-one, take-suc-set out p b h, append-assoc)
+
+-- the same from the end: one byte less is still to be written at p
+pub stored-last : (out todo : List ℕ) (b p q : ℕ) → q ≡ p + length todo → q < length out → ahead (set out q b) todo p ≡ ahead out (todo ++ (b ∷ [])) p
+stored-last out todo b p q e h =
+    let f : p + length (todo ++ (b ∷ [])) ≡ suc q = rw length-append (omega arith) in
+    let g : drop q (set out q b) ≡ b ∷ drop (suc q) out = drop-cons (set out q b) q 0 (lt-length-set out q b h) ∙ rw (getD-set-same out q b 0 h, drop-set-lt (suc q) out q b (omega arith)) in
+    rw (← e, f, take-set-le p out q b (omega arith), g, append-assoc)
 
 pub ended : (out : List ℕ) (p : ℕ) → ahead out [] p ≡ out
 ended out p = let e : p + 0 ≡ p = omega arith in rw e (take-append-drop p out)

@@ -1,5 +1,4 @@
 -- The text that a run prints, and how it is written into a lent buffer; with the laws.
 pub mod Writing
-pub mod Spelling
 pub mod Printed
 pub mod Examples

@@ -1,67 +1,47 @@
-// Text written into a lent buffer: bytes, and plain decimals from a table of the powers of ten.
+// Text written into a lent buffer: bytes, and plain decimals digit by digit, by division by ten.
 ghost use mathlib.Core.Path.{_≡_};
-ghost use Prim.Native.Nat.{_+_, _<_, _≤_, _^_, _/_, _%_};
+ghost use Prim.Native.Nat.{_+_, _≤_, _%_};
 ghost use lib.IntN.{natAbs};
 ghost use lib.ListN.{length};
 ghost use Rattle.text.specs.Decimal.{digit, decimal, whole};
-ghost use Rattle.print.specs.Spelling.{spell, places};
 ghost use Rattle.print.specs.Writing.{Wrote};
 
-const POWERS: [u32; 10] = [
-    1,
-    10,
-    100,
-    1_000,
-    10_000,
-    100_000,
-    1_000_000,
-    10_000_000,
-    100_000_000,
-    1_000_000_000,
-];
-
-// Ten to the j.
-fn power(j: usize) -> u32
-    requires { ⌜ j < 10 ⌝ }
-    ensures { λ r. ⌜ r ≡ 10 ^ j ⌝ }
+// The last digit of n, as a byte.
+fn glyph(n: u32) -> u8
+    ensures { λ r. ⌜ r ≡ digit (n % 10) ⌝ }
 {
-    POWERS[j]
+    b'0' + (n % 10) as u8
 }
 
-// The digit of n at the power p, as a byte.
-fn glyph(n: u32, p: u32) -> u8
-    requires { ⌜ 0 < p ⌝ }
-    ensures { λ r. ⌜ r ≡ digit (n / p % 10) ⌝ }
-{
-    b'0' + (n / p % 10) as u8
-}
-
-// How many digits n has.
+// How many digits n has: each division by ten takes one away.
 fn count_places(n: u32) -> usize
-    ensures { λ r. ⌜ (r ≡ places 9 n) × (r ≤ 10) ⌝ }
+    ensures { λ r. ⌜ (r ≡ length (decimal n)) × (r ≤ 10) ⌝ }
 {
-    let mut k: usize = 9;
-    while 0 < k {
-        if power(k) <= n {
-            return k + 1;
+    let mut left = n;
+    let mut k: usize = 0;
+    loop {
+        k += 1;
+        left = left / 10;
+        if left == 0 {
+            return k;
         }
-        k -= 1;
     }
-    1
 }
 
-// Writes the last k digits of n at the place at.
+// Writes the k digits of n at the place at, the last one first.
 fn put_digits(n: u32, k: usize, out: &mut [u8], at: usize)
-    requires { ⌜ (k ≤ 10) × (at + k ≤ length (now out)) ⌝ }
-    ensures { λ _. ⌜ Wrote (now (out .entry)) at (spell k n) (now (out .exit)) (at + k) ⌝ }
+    requires { ⌜ (k ≡ length (decimal n)) × (at + k ≤ length (now out)) ⌝ }
+    ensures { λ _. ⌜ Wrote (now (out .entry)) at (decimal n) (now (out .exit)) (at + k) ⌝ }
 {
-    let mut j = k;
-    let mut p = at;
-    while 0 < j {
-        j -= 1;
-        let d = glyph(n, power(j));
-        out[p] = d;
-        p += 1;
+    let mut rest = n;
+    let mut p = at + k;
+    loop {
+        p -= 1;
+        out[p] = glyph(rest);
+        rest = rest / 10;
+        if rest == 0 {
+            return;
+        }
     }
 }
 

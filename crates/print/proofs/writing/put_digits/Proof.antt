@@ -1,70 +1,71 @@
--- `print::writing::put_digits` meets its contract. The loop's invariant: what is written and what is still to be written make the whole. Assumes nothing.
+-- `print::writing::put_digits` meets its contract. The loop's invariant: the digits of the rest, still to be written, and what is written behind them make the whole. Assumes nothing.
 use borrow.Author.Needs.{needs}
 use mathlib.Core.Path.{_≡_, refl, _∙_}
-use Prim.Native.Nat.{ℕ, suc, _+_, _-_, _<_, _≤_, _^_, _/_, _%_}
 use mathlib.Core.List.{List, []}
+use Prim.Native.Nat.{ℕ, _+_, _-_, _≤_, _/_, _%_}
 use native.Mathlib.Omega.{arith}
 use lib.ListN.{length, set, length-set}
-use Rattle.text.specs.Decimal.{digit}
-use Rattle.print.specs.Spelling.{spell, length-spell, ten-pos}
-use Rattle.print.proofs.Buffer.{ahead, stored, closed}
+use Rattle.text.specs.Decimal.{digit, decimal}
+use Rattle.text.specs.DecimalLaws.{decimal-split}
+use Rattle.print.proofs.Digits.{only-digit, one-place, more-places, some-place}
+use Rattle.print.proofs.Buffer.{ahead, stored-last, closed}
 use Rattle.print.proofs.writing.put_digits.Statement.{statement}
 use Rattle.print.proofs.writing.put_digits.Tie as tie
 
-one-more : (out : List ℕ) (n j p : ℕ) → 0 < j → p < length out →
-    ahead (set out p (digit (n / 10 ^ (j - 1) % 10))) (spell (j - 1) n) (p + 1) ≡ ahead out (spell j n) p
-unfolding spell
-one-more out n ℕ.zero p h q = absurd (omega arith)
-one-more out n (suc i) p h q =
-    let e : suc i - 1 ≡ i = omega arith in
-    rw e (stored out (digit (n / 10 ^ i % 10)) (spell i n) p q)
+-- the last digit of m is written: the digits of what is left are still to be written, or none
+module _ (out : List ℕ) (m at p : ℕ) (e : p ≡ at + length (decimal m)) (g : p ≤ length out) where
+  one-less : 10 ≤ m → ahead (set out (p - 1) (digit (m % 10))) (decimal (m / 10)) at ≡ ahead out (decimal m) at
+  one-less h =
+      let f : length (decimal m) ≡ length (decimal (m / 10)) + 1 = more-places m h in
+      rw (decimal-split m h) (stored-last out (decimal (m / 10)) (digit (m % 10)) at (p - 1) (omega arith) (omega arith))
 
-none-left : (n j : ℕ) → j ≤ 0 → spell j n ≡ []
-unfolding spell
-none-left n ℕ.zero h = refl
-none-left n (suc j) h = absurd (omega arith)
+  none-left : m / 10 ≡ 0 → ahead (set out (p - 1) (digit (m % 10))) [] at ≡ ahead out (decimal m) at
+  none-left h =
+      let f : length (decimal m) ≡ 1 = one-place m h in
+      rw (only-digit m h) (stored-last out [] (digit (m % 10)) at (p - 1) (omega arith) (omega arith))
 
 abbrev Inv-loop : tie.InvT-loop
-Inv-loop n k out₀ at j₀ p₀ out j p = (j ≤ 10) × (p + j ≡ at + k) × (length out ≡ length out₀) × (ahead out (spell j n) p ≡ ahead out₀ (spell k n) at)
+Inv-loop n k out₀ at rest₀ p₀ out rest p = (p ≡ at + length (decimal rest)) × (p ≤ length out) × (length out ≡ length out₀) × (ahead out (decimal rest) at ≡ ahead out₀ (decimal n) at)
 
 abbrev μ-loop : tie.MeasureT-loop
-μ-loop n k out₀ at j₀ p₀ out j p = j
-
-loop-holds : tie.Need-loop-holds Inv-loop μ-loop
-loop-holds c = (search needs, refl, refl, refl)
-
-sub-j : tie.Need-sub-j Inv-loop μ-loop
-sub-j c = search needs
-
-power-requires : tie.Need-power-requires Inv-loop μ-loop
-power-requires c κs = search needs
-
-glyph-requires : tie.Need-glyph-requires Inv-loop μ-loop
-glyph-requires c κs = rw (c .power .ensures) (ten-pos _)
-
-slice-write-out : tie.Need-slice-write-out Inv-loop μ-loop
-slice-write-out c = search needs
+μ-loop n k out₀ at rest₀ p₀ out rest p = rest
 
 add-p : tie.Need-add-p Inv-loop μ-loop
 add-p c = search needs
+
+loop-holds : tie.Need-loop-holds Inv-loop μ-loop
+loop-holds c = (search needs, search needs, refl, refl)
+
+sub-p : tie.Need-sub-p Inv-loop μ-loop
+sub-p c = omega (arith, some-place (c .loop .rest))
+
+glyph-requires : tie.Need-glyph-requires Inv-loop μ-loop
+glyph-requires c κs = search needs
+
+slice-write-out : tie.Need-slice-write-out Inv-loop μ-loop
+slice-write-out c = omega (arith, some-place (c .before .loop .rest))
+
+same-length : tie.Need-same-length Inv-loop μ-loop
+same-length c = simp length-set (c .before .before .loop .inv .2)
+
+returns : tie.Need-returns Inv-loop μ-loop
+returns c =
+    let turn = c .before .before .loop in
+    let last = none-left (turn .out) (turn .rest) _ (turn .p) (turn .inv .0) (turn .inv .1) (search needs) in
+    closed (c .before .before .before .before .args .at) (search needs) (rw (c .before .glyph .ensures) (last ∙ turn .inv .3))
 
 loop-less : tie.Need-loop-less Inv-loop μ-loop
 loop-less c = search needs
 
 loop-again : tie.Need-loop-again Inv-loop μ-loop
-loop-again c = (
-  search needs,
-  search needs,
-  simp length-set (c .before .before .before .loop .inv .2),
-  rw (c .glyph .ensures, c .before .power .ensures)
-      (one-more (c .before .before .before .loop .out) (c .before .before .before .before .before .args .n) (c .before .before .before .loop .j) (c .before .before .before .loop .p) (c .before .before .loop-test .taken) (search needs) ∙ c .before .before .before .loop .inv .3),
-)
-
-same-length : tie.Need-same-length Inv-loop μ-loop
-same-length c = c .before .loop .inv .2
-
-returns : tie.Need-returns Inv-loop μ-loop
-returns c = closed (c .before .loop .p) (rw length-spell) (rw (none-left (c .before .before .before .args .n) (c .before .loop .j) (c .loop-test .left)) at (c .before .loop .inv .3))
+loop-again c =
+    let turn = c .before .before .loop in
+    let less = one-less (turn .out) (turn .rest) _ (turn .p) (turn .inv .0) (turn .inv .1) (search needs) in (
+      omega (arith, more-places (turn .rest) (search needs)),
+      simp length-set (search needs),
+      simp length-set (turn .inv .2),
+      rw (c .before .glyph .ensures) (less ∙ turn .inv .3),
+    )
 
 pub put-digits-spec : {M : Type 1} → statement M
 put-digits-spec =
@@ -72,13 +73,12 @@ put-digits-spec =
     (tie.spec
     Inv-loop
     μ-loop
+    add-p
     loop-holds
-    sub-j
-    power-requires
+    sub-p
     glyph-requires
     slice-write-out
-    add-p
-    loop-less
-    loop-again
     same-length
-    returns)
+    returns
+    loop-less
+    loop-again)

@@ -1,8 +1,4 @@
 -- `print::writing::put_natural` meets its contract. Assumes nothing.
-use mathlib.Core.Path.{ap, _∙_}
-use native.Mathlib.Omega.{arith}
-use Rattle.print.specs.Spelling.{spell, spell-decimal}
-use Rattle.print.proofs.Buffer.{reworded}
 use borrow.Author.Needs.{needs}
 use Rattle.print.proofs.writing.put_natural.Statement.{statement}
 use Rattle.print.proofs.writing.put_natural.Tie as tie
@@ -20,10 +16,7 @@ same-length : tie.Need-same-length
 same-length c = search needs
 
 returns : tie.Need-returns
-returns c = (
-  reworded (ap (λ k. spell k (c .before .before .before .before .before .before .args .n)) (c .before .before .before .before .count-places .ensures .0) ∙ spell-decimal 9 (c .before .before .before .before .before .before .args .n) (omega arith)) (c .before .before .put-digits .ensures),
-  omega arith,
-)
+returns c = (c .before .before .put-digits .ensures, search needs)
 
 pub put-natural-spec : {M : Type 1} → statement M
 put-natural-spec =
