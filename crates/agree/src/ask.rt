@@ -1,11 +1,17 @@
 // One operation, asked of the store and of the model.
 use crate::draw::Op;
 use crate::model;
+use crate::model::BINDING;
+use crate::model::FOCUS;
 use crate::model::SPACE;
 use crate::model::Says;
+use crate::model::UNBOUND;
+use crate::model::WIND;
+use crate::model::answered;
+use crate::model::done;
+use crate::model::refused;
 use layout::Store;
 use store::Answer;
-use store::Seen;
 
 fn cut32(n: usize) -> u32 {
     (n % 4_294_967_296) as u32
@@ -41,42 +47,22 @@ fn unsigned(v: i32) -> u32 {
     }
 }
 
-fn says(code: usize, out: usize, moves: usize, events: usize) -> Says {
-    Says {
-        code,
-        out,
-        moves,
-        events,
-        by: model::NO_ONE,
-    }
-}
-
-fn seen(v: Seen) -> Says {
-    Says {
-        code: 0,
-        out: wide32(unsigned(v.value)),
-        moves: 0,
-        events: 0,
-        by: wide(v.by),
-    }
-}
-
 // The store's answer as document 01's numbers.
 pub(crate) fn told(r: Answer) -> Says {
     match r {
-        Answer::Opened => says(0, 0, 0, 0),
-        Answer::Number(n) => says(0, wide(n), 0, 0),
-        Answer::Made(n) => says(0, wide(n.node), 0, wide(n.events)),
-        Answer::Value(v) => seen(v),
-        Answer::Switched(w) => says(0, wide(w.focus), wide(w.moves), wide(w.events)),
-        Answer::Setup => says(1, 0, 0, 0),
-        Answer::Damaged => says(2, 0, 0, 0),
-        Answer::NoVariable => says(3, 0, 0, 0),
-        Answer::NoEnvironment => says(4, 0, 0, 0),
-        Answer::Unbound => says(5, 0, 0, 0),
-        Answer::Full => says(6, 0, 0, 0),
-        Answer::TraceRoom => says(7, 0, 0, 0),
-        Answer::Top => says(8, 0, 0, 0),
+        Answer::Opened => done(0),
+        Answer::Number(n) => done(wide(n)),
+        Answer::Made(n) => answered(0, wide(n.node), 0, wide(n.events)),
+        Answer::Value(v) => model::seen(wide32(unsigned(v.value)), wide(v.by)),
+        Answer::Switched(w) => answered(0, wide(w.focus), wide(w.moves), wide(w.events)),
+        Answer::Setup => refused(1),
+        Answer::Damaged => refused(2),
+        Answer::NoVariable => refused(3),
+        Answer::NoEnvironment => refused(4),
+        Answer::Unbound => refused(5),
+        Answer::Full => refused(6),
+        Answer::TraceRoom => refused(7),
+        Answer::Top => refused(8),
     }
 }
 
@@ -92,28 +78,43 @@ pub(crate) fn store_open(v: usize, n: usize, tops: &[u8], s: &mut [u8]) -> Says 
     told(store::open(cut32(v), cut32(n), tops, s))
 }
 
-pub(crate) fn of_store(o: Op, s: &mut [u8], t: &mut [u8]) -> Says {
+// The calls that change nothing.
+fn read(o: Op, s: &[u8]) -> Answer {
     let what = o.what;
+    let x = cut32(o.one);
     match what {
-        b'b' => told(store::bind(s, cut32(o.one), signed(cut32(o.two)))),
-        b'w' => told(store::wind(s, t, cut16(o.one), cut16(o.two))),
-        b'l' => told(store::look(s, cut32(o.one))),
-        b's' => told(store::set(s, cut32(o.one), signed(cut32(o.two)))),
-        b'h' => store_here(s),
-        b'g' => told(store::goto(s, t, cut32(o.one))),
-        b'k' => told(store::back(s, t)),
-        _ => store_peek(s, o.one, o.two),
+        b'l' => store::look(s, x),
+        b'h' => store::here(s),
+        _ => store::peek(s, x, cut32(o.two)),
     }
 }
 
-pub(crate) fn of_model(o: Op, m: &mut [usize; SPACE], notes: &mut [u8]) -> Says {
+fn asked(o: Op, s: &mut [u8], t: &mut [u8]) -> Answer {
+    let what = o.what;
+    let x = cut32(o.one);
+    let v = signed(cut32(o.two));
+    match what {
+        b'b' => store::bind(s, x, v),
+        b'w' => store::wind(s, t, cut16(o.one), cut16(o.two)),
+        b's' => store::set(s, x, v),
+        b'g' => store::goto(s, t, x),
+        b'k' => store::back(s, t),
+        _ => read(o, s),
+    }
+}
+
+pub(crate) fn of_store(o: Op, s: &mut [u8], t: &mut [u8]) -> Says {
+    told(asked(o, s, t))
+}
+
+fn answer(o: Op, m: &[usize; SPACE], notes: &mut [u8]) -> Says {
     let what = o.what;
     let room = o.trace / Store::EVENT;
     match what {
-        b'b' => model::bind(m, o.one, o.two),
-        b'w' => model::wind(m, o.one, o.two, room, notes),
+        b'b' => model::bind(m, o.one),
+        b'w' => model::wind(m, o.one, room, notes),
         b'l' => model::look(m, o.one),
-        b's' => model::set(m, o.one, o.two),
+        b's' => model::set(m, o.one),
         b'h' => model::here(m),
         b'g' => model::goto(m, o.one, room, notes),
         b'k' => model::back(m, room, notes),
@@ -121,13 +122,28 @@ pub(crate) fn of_model(o: Op, m: &mut [usize; SPACE], notes: &mut [u8]) -> Says 
     }
 }
 
+// What an operation that answers `out` makes of the model.
+fn change(o: Op, out: usize, m: &mut [usize; SPACE]) {
+    let what = o.what;
+    match what {
+        b'b' => model::grow(m, BINDING, o.one, 0, o.two),
+        b'w' => model::grow(m, WIND, o.one, o.two, UNBOUND),
+        b's' => model::put_value(m, o.one, o.two),
+        b'g' | b'k' => model::put_head(m, FOCUS, out),
+        _ => {}
+    }
+}
+
+pub(crate) fn of_model(o: Op, m: &mut [usize; SPACE], notes: &mut [u8]) -> Says {
+    let r = answer(o, m, notes);
+    if r.code == 0 {
+        change(o, r.out, m);
+    }
+    r
+}
+
 // Whether two answers are the same.
 pub(crate) fn agree(a: Says, b: Says) -> bool {
-    if a.code != b.code || a.out != b.out {
-        return false;
-    }
-    if a.moves != b.moves || a.by != b.by {
-        return false;
-    }
-    a.events == b.events
+    let first = (a.code ^ b.code) | (a.out ^ b.out) | (a.moves ^ b.moves);
+    first | (a.events ^ b.events) | (a.by ^ b.by) == 0
 }
