@@ -1,8 +1,12 @@
 // One operation, asked of the store and of the model.
 use crate::draw::Op;
 use crate::model;
+use crate::model::BINDING;
+use crate::model::FOCUS;
 use crate::model::SPACE;
 use crate::model::Says;
+use crate::model::UNBOUND;
+use crate::model::WIND;
 use layout::Store;
 use promises::Answer;
 use promises::numbers_of;
@@ -69,28 +73,43 @@ pub(crate) fn store_open(v: usize, n: usize, tops: &[u8], s: &mut [u8]) -> Says 
     told(store::open(cut32(v), cut32(n), tops, s))
 }
 
-pub(crate) fn of_store(o: Op, s: &mut [u8], t: &mut [u8]) -> Says {
+// The calls that change nothing.
+fn read(o: Op, s: &[u8]) -> Answer {
     let what = o.what;
+    let x = cut32(o.one);
     match what {
-        b'b' => told(store::bind(s, cut32(o.one), signed(cut32(o.two)))),
-        b'w' => told(store::wind(s, t, cut16(o.one), cut16(o.two))),
-        b'l' => told(store::look(s, cut32(o.one))),
-        b's' => told(store::set(s, cut32(o.one), signed(cut32(o.two)))),
-        b'h' => store_here(s),
-        b'g' => told(store::goto(s, t, cut32(o.one))),
-        b'k' => told(store::back(s, t)),
-        _ => store_peek(s, o.one, o.two),
+        b'l' => store::look(s, x),
+        b'h' => store::here(s),
+        _ => store::peek(s, x, cut32(o.two)),
     }
 }
 
-pub(crate) fn of_model(o: Op, m: &mut [usize; SPACE], notes: &mut [u8]) -> Says {
+fn asked(o: Op, s: &mut [u8], t: &mut [u8]) -> Answer {
+    let what = o.what;
+    let x = cut32(o.one);
+    let v = signed(cut32(o.two));
+    match what {
+        b'b' => store::bind(s, x, v),
+        b'w' => store::wind(s, t, cut16(o.one), cut16(o.two)),
+        b's' => store::set(s, x, v),
+        b'g' => store::goto(s, t, x),
+        b'k' => store::back(s, t),
+        _ => read(o, s),
+    }
+}
+
+pub(crate) fn of_store(o: Op, s: &mut [u8], t: &mut [u8]) -> Says {
+    told(asked(o, s, t))
+}
+
+fn answer(o: Op, m: &[usize; SPACE], notes: &mut [u8]) -> Says {
     let what = o.what;
     let room = o.trace / Store::EVENT;
     match what {
-        b'b' => model::bind(m, o.one, o.two),
-        b'w' => model::wind(m, o.one, o.two, room, notes),
+        b'b' => model::bind(m, o.one),
+        b'w' => model::wind(m, o.one, room, notes),
         b'l' => model::look(m, o.one),
-        b's' => model::set(m, o.one, o.two),
+        b's' => model::set(m, o.one),
         b'h' => model::here(m),
         b'g' => model::goto(m, o.one, room, notes),
         b'k' => model::back(m, room, notes),
@@ -98,13 +117,28 @@ pub(crate) fn of_model(o: Op, m: &mut [usize; SPACE], notes: &mut [u8]) -> Says 
     }
 }
 
+// What an operation that answers `out` makes of the model.
+fn change(o: Op, out: usize, m: &mut [usize; SPACE]) {
+    let what = o.what;
+    match what {
+        b'b' => model::grow(m, BINDING, o.one, 0, o.two),
+        b'w' => model::grow(m, WIND, o.one, o.two, UNBOUND),
+        b's' => model::put_value(m, o.one, o.two),
+        b'g' | b'k' => model::put_head(m, FOCUS, out),
+        _ => {}
+    }
+}
+
+pub(crate) fn of_model(o: Op, m: &mut [usize; SPACE], notes: &mut [u8]) -> Says {
+    let r = answer(o, m, notes);
+    if r.code == 0 {
+        change(o, r.out, m);
+    }
+    r
+}
+
 // Whether two answers are the same.
 pub(crate) fn agree(a: Says, b: Says) -> bool {
-    if a.code != b.code || a.out != b.out {
-        return false;
-    }
-    if a.moves != b.moves || a.by != b.by {
-        return false;
-    }
-    a.events == b.events
+    let first = (a.code ^ b.code) | (a.out ^ b.out) | (a.moves ^ b.moves);
+    first | (a.events ^ b.events) | (a.by ^ b.by) == 0
 }

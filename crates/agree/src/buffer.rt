@@ -7,6 +7,11 @@ pub(crate) fn plus(a: usize, b: usize) -> usize {
     std::num::wrapping_add_usize(a, b)
 }
 
+// a - b, where a is the larger.
+pub(crate) fn less(a: usize, b: usize) -> usize {
+    std::num::wrapping_sub_usize(a, b)
+}
+
 fn wide(b: u8) -> usize
     ensures { λ r. ⌜ r < 256 ⌝ }
 {
@@ -17,6 +22,16 @@ pub(crate) fn byte(b: &[u8], at: usize) -> usize
     ensures { λ r. ⌜ r < 256 ⌝ }
 {
     if at < b.len() { wide(b[at]) } else { 0 }
+}
+
+// The byte k of a number.
+pub(crate) fn part(n: usize, k: usize) -> usize {
+    match k {
+        0 => n % 256,
+        1 => n / 256 % 256,
+        2 => n / 65_536 % 256,
+        _ => n / 16_777_216 % 256,
+    }
 }
 
 // The lowest 8 bits of n.
@@ -60,11 +75,11 @@ pub(crate) fn fill(b: &mut [u8]) {
     }
 }
 
-// Zeros up to `end`.
-pub(crate) fn clear(b: &mut [u8], end: usize) {
+// The first bytes of a buffer become those of another.
+pub(crate) fn copy(from: &[u8], to: &mut [u8]) {
     let mut i = 0;
-    while i < end {
-        poke(b, i, 0);
+    while i < from.len() {
+        poke(to, i, byte(from, i));
         i += 1;
     }
 }
@@ -87,16 +102,4 @@ pub(crate) fn holds(b: &[u8], notes: &[u8], end: usize) -> bool {
         i += 1;
     }
     true
-}
-
-// The first place before `end` where two buffers have different bytes, else `end`.
-pub(crate) fn differ_at(a: &[u8], b: &[u8], end: usize) -> usize {
-    let mut i = 0;
-    while i < end {
-        if byte(a, i) != byte(b, i) {
-            return i;
-        }
-        i += 1;
-    }
-    end
 }

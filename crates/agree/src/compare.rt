@@ -1,11 +1,11 @@
 // What is compared, and what is counted: answers, every byte of the store, the values of all variables in all environments.
 use crate::ask;
 use crate::buffer::byte;
-use crate::buffer::differ_at;
 use crate::buffer::plus;
 use crate::draw;
 use crate::image;
 use crate::model;
+use crate::model::COUNTED;
 use crate::model::MADE;
 use crate::model::SPACE;
 use crate::model::Says;
@@ -33,9 +33,9 @@ pub(crate) const OPERATIONS: usize = 11;
 
 pub(crate) const VALUES: usize = 12;
 
-pub(crate) const EVENTS: usize = 13;
+pub(crate) const MOVES: usize = 13;
 
-pub(crate) const MOVES: usize = 14;
+pub(crate) const EVENTS: usize = 14;
 
 pub(crate) const BROKEN: usize = 15;
 
@@ -45,51 +45,37 @@ pub(crate) const OWN_LOW: usize = 17;
 
 pub(crate) const OWN_HIGH: usize = 18;
 
-pub(crate) const COUNTS: usize = 19;
-
-pub(crate) fn count(c: &mut [usize; COUNTS], i: usize, n: usize) {
-    if i < COUNTS {
-        c[i] = plus(c[i], n);
-    }
+pub(crate) fn count(m: &mut [usize; SPACE], i: usize, n: usize) {
+    let c = model::of(m, COUNTED, i);
+    model::put(m, COUNTED, i, plus(c, n));
 }
 
-pub(crate) fn counted(c: &[usize; COUNTS], i: usize) -> usize {
-    if i < COUNTS { c[i] } else { 0 }
-}
-
-fn count_answer(c: &mut [usize; COUNTS], a: Says) {
-    count(c, a.code, 1);
-    count(c, OPERATIONS, 1);
-    count(c, EVENTS, a.events);
-    count(c, MOVES, a.moves);
+fn count_answer(m: &mut [usize; SPACE], a: Says) {
+    count(m, a.code, 1);
+    count(m, OPERATIONS, 1);
+    count(m, EVENTS, a.events);
+    count(m, MOVES, a.moves);
 }
 
 // ---- answers and bytes
 
-pub(crate) fn answers(loud: bool, want: Says, got: Says, c: &mut [usize; COUNTS]) -> usize {
-    count_answer(c, want);
+pub(crate) fn answers(loud: bool, want: Says, got: Says, m: &mut [usize; SPACE]) -> usize {
+    count_answer(m, want);
     if ask::agree(want, got) {
         return 0;
     }
-    if loud {
-        say::answer(b"model", want);
-        say::answer(b"store", got);
-    }
+    say::answers(loud, want, got);
     ANSWER
 }
 
 // Whether the store's bytes, and those lent after it, are what the model has them to be.
-pub(crate) fn bytes_agree(loud: bool, s: &[u8], w: &mut [u8], m: &[usize; SPACE]) -> usize {
-    image::image(m, w);
-    let at = differ_at(s, w, s.len());
+pub(crate) fn bytes_agree(loud: bool, s: &[u8], m: &mut [usize; SPACE]) -> usize {
+    image::mark(m);
+    let at = image::differ_at(s, m, s.len());
     if at == s.len() {
         return 0;
     }
-    if loud {
-        say::field(b"byte", at);
-        say::field(b" model", byte(w, at));
-        say::line(b" store", byte(s, at));
-    }
+    say::line(loud, say::BYTE, at, image::wanted(m, at), byte(s, at));
     BYTES
 }
 
@@ -106,12 +92,8 @@ fn value_agrees(loud: bool, s: &[u8], m: &[usize; SPACE], a: usize, x: usize) ->
     if ask::agree(want, got) {
         return true;
     }
-    if loud {
-        say::field(b"the value of variable", x);
-        say::line(b" at", a);
-        say::answer(b"model", want);
-        say::answer(b"store", got);
-    }
+    say::line(loud, say::VALUE, x, a, 0);
+    say::answers(loud, want, got);
     false
 }
 
@@ -162,41 +144,37 @@ fn spots_agree(loud: bool, s: &[u8], m: &[usize; SPACE], seed: usize, spots: usi
 // Up to so many values all are compared.
 const FEW: usize = 400;
 
+fn all_values(m: &[usize; SPACE]) -> usize {
+    model::place(0, model::head(m, VARS), model::head(m, MADE))
+}
+
+// How many values are compared: all; where there are too many, some at drawn places.
+fn how_many(m: &[usize; SPACE], spots: usize) -> usize {
+    let all = all_values(m);
+    if all <= FEW { all } else { spots }
+}
+
+fn values_same(loud: bool, g: usize, spots: usize, s: &[u8], m: &[usize; SPACE]) -> bool {
+    if all_values(m) <= FEW {
+        all_agree(loud, s, m)
+    } else {
+        spots_agree(loud, s, m, g, spots)
+    }
+}
+
 // The values of all variables in all environments; where there are too many, at some drawn places.
 pub(crate) fn values_agree(
     loud: bool,
     g: usize,
     spots: usize,
     s: &[u8],
-    m: &[usize; SPACE],
-    c: &mut [usize; COUNTS],
+    m: &mut [usize; SPACE],
 ) -> usize {
-    let all = model::place(0, model::head(m, VARS), model::head(m, MADE));
-    if all <= FEW {
-        count(c, VALUES, all);
-        return if all_agree(loud, s, m) { 0 } else { VALUE };
-    }
-    count(c, VALUES, spots);
-    if spots_agree(loud, s, m, g, spots) {
+    let n = how_many(m, spots);
+    count(m, VALUES, n);
+    if values_same(loud, g, spots, s, m) {
         0
     } else {
         VALUE
     }
-}
-
-// The bytes, then the values.
-pub(crate) fn all_agrees(
-    loud: bool,
-    g: usize,
-    spots: usize,
-    s: &[u8],
-    w: &mut [u8],
-    m: &[usize; SPACE],
-    c: &mut [usize; COUNTS],
-) -> usize {
-    let found = bytes_agree(loud, s, w, m);
-    if found != 0 {
-        return found;
-    }
-    values_agree(loud, g, spots, s, m, c)
 }

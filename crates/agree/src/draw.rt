@@ -63,23 +63,29 @@ pub(crate) const EDGES: usize = 8;
 pub(crate) const NONE: usize = 9;
 
 // The operations of a kind by their letters, each as often as it stands: Bind, Wind, Look, Set, Here, Goto, bacK, Peek,
-// Damage, Unbind a cell, Open, Cut off. Deep chains grow until the store is full, and then jump.
-fn menu(kind: usize, full: bool) -> [u8; 16] {
-    if kind == DEEP && full {
-        return *b"gggggkkkssslpphb";
-    }
-    match kind {
-        DEEP => *b"bbbbbbbbbwwwwlsp",
-        BUSHY => *b"bbbbwwggggggklsp",
-        SAME => *b"bbbbbbssssgggklp",
-        WINDS => *b"wwwwwwwggggggkkb",
-        JUMPS => *b"bbbwwggggggggglp",
-        FULL => *b"bbbbbbwwwwgklsph",
-        DAMAGED => *b"bbbwwggsddddddup",
-        ROOMS => *b"bwwwwwggggggggkk",
-        EDGES => *b"bwglsphkoocckgsb",
-        _ => *b"bblllssspppggkwu",
-    }
+// Damage, Unbind a cell, Open, Cut off. A row for each kind; deep chains grow until the store is full, and then have the last.
+const MENU: usize = 16;
+
+const MENUS: [u8; MENU * (KINDS + 1)] = *b"bbbbbbbbbwwwwlsp\
+    bbbbwwggggggklsp\
+    bbbbbbssssgggklp\
+    wwwwwwwggggggkkb\
+    bbbwwggggggggglp\
+    bbbbbbwwwwgklsph\
+    bbbwwggsddddddup\
+    bwwwwwggggggggkk\
+    bwglsphkoocckgsb\
+    bblllssspppggkwu\
+    gggggkkkssslpphb";
+
+// The letter of the next operation.
+pub(crate) fn what(kind: usize, g: usize, m: &[usize; SPACE]) -> u8 {
+    let row = if kind == DEEP && is_full(m) {
+        KINDS
+    } else {
+        kind
+    };
+    MENUS[row % (KINDS + 1) * MENU + draw(g, MENU) % MENU]
 }
 
 // A sequence: its kind, the store's V and N, how many operations, how many bytes are lent after the store.
@@ -209,13 +215,18 @@ fn environment(kind: usize, g: usize, m: &[usize; SPACE]) -> usize {
     near(kind, g, made)
 }
 
+// How many events a switch to a tells.
+fn events_to(m: &[usize; SPACE], a: usize) -> usize {
+    let mut notes = [0u8; Store::EVENT * Store::NODES];
+    way(m, a, Store::NODES, &mut notes).events
+}
+
 // How many events the operation tells if there is room.
 fn events(what: u8, a: usize, m: &[usize; SPACE]) -> usize {
-    let mut notes = [0u8; Store::EVENT * Store::NODES];
     match what {
         b'w' => 1,
-        b'g' => way(m, a, &mut notes).events,
-        b'k' => way(m, up(m, head(m, FOCUS)), &mut notes).events,
+        b'g' => events_to(m, a),
+        b'k' => events_to(m, up(m, head(m, FOCUS))),
         _ => 0,
     }
 }
@@ -269,11 +280,9 @@ fn made_op(what: u8, one: usize, two: usize) -> Op {
 
 // The next operation.
 pub(crate) fn operation(kind: usize, g: usize, m: &[usize; SPACE]) -> Op {
-    let at = draw(g, 16);
-    let letters = menu(kind, is_full(m));
-    let what = letters[at % 16];
-    let mut o = numbers(kind, next(g), m, what);
-    o.trace = trace(kind, next(next(g)), events(what, o.one, m));
+    let letter = what(kind, g, m);
+    let mut o = numbers(kind, next(g), m, letter);
+    o.trace = trace(kind, later(g), events(letter, o.one, m));
     o
 }
 
@@ -293,15 +302,16 @@ pub(crate) fn draw_tops(kind: usize, seed: usize, v: usize, b: &mut [u8]) {
 
 fn put_top(g: usize, odds: usize, x: usize, b: &mut [u8]) {
     let at = place(0, Store::BARE, x);
-    if once_in(next(g), odds) {
-        put_cell(b, at, plus(at, 1), UNBOUND);
+    let v = if once_in(next(g), odds) {
+        UNBOUND
     } else {
-        put_cell(b, at, plus(at, 1), bits(g));
-    }
+        bits(g)
+    };
+    put_cell(b, at, plus(at, 1), v);
 }
 
 // A number of variables or of environments, on both sides of the edges.
-pub(crate) fn count_near(g: usize, most: usize) -> usize {
+fn count_near(g: usize, most: usize) -> usize {
     match draw(g, 10) {
         0 => 0,
         1 => most,
@@ -313,24 +323,46 @@ pub(crate) fn count_near(g: usize, most: usize) -> usize {
 }
 
 // The bytes of top cells for v variables; now and then one too many or too few.
-pub(crate) fn tops_len(g: usize, v: usize) -> usize {
+fn tops_len(g: usize, v: usize) -> usize {
     let len = place(0, Store::BARE, v);
     if once_in(g, 8) {
         return plus(len, 1);
     }
-    if 0 < len && once_in(next(g), 8) {
+    if once_in(next(g), 8) && 0 < len {
         return len - 1;
     }
     len
 }
 
-// Now and then a byte of the top cells is another.
-pub(crate) fn spoil(g: usize, v: usize, b: &mut [u8]) {
-    if once_in(g, 4) {
+// An opening: V, N and the bytes of top cells.
+pub(crate) struct Opening {
+    pub vars: usize,
+    pub nodes: usize,
+    pub len: usize,
+}
+
+// The generator's state two draws later.
+pub(crate) fn later(g: usize) -> usize {
+    next(next(g))
+}
+
+pub(crate) fn some_opening(g: usize) -> Opening {
+    let vars = count_near(g, Store::VARS);
+    Opening {
+        vars,
+        nodes: count_near(later(g), Store::NODES),
+        len: tops_len(later(later(g)), vars % 300),
+    }
+}
+
+// Top cells for another opening; now and then a byte of them is another.
+pub(crate) fn edge_tops(g: usize, v: usize, b: &mut [u8]) {
+    draw_tops(EDGES, g, v, b);
+    if once_in(next(g), 4) {
         poke(
             b,
-            draw(next(g), place(0, Store::BARE, v)),
-            draw(next(next(g)), 3),
+            draw(later(g), place(0, Store::BARE, v)),
+            draw(next(later(g)), 3),
         );
     }
 }
@@ -376,5 +408,5 @@ pub(crate) fn between(g: usize, low: usize, end: usize) -> usize {
 
 // The generator's state for the next operation.
 pub(crate) fn skip(g: usize) -> usize {
-    next(next(next(next(next(g)))))
+    next(later(later(g)))
 }

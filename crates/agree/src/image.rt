@@ -1,18 +1,20 @@
 // The bytes that a store of the model's has to have, and the way back: the model of a store's bytes. Bytes are a sound store
-// exactly where they are the image of their own model.
+// exactly where they are those of their own model.
 use crate::buffer::byte;
-use crate::buffer::clear;
-use crate::buffer::differ_at;
 use crate::buffer::number16;
+use crate::buffer::part;
 use crate::buffer::plus;
 use crate::buffer::poke;
-use crate::buffer::spell16;
 use crate::buffer::spell32;
 use crate::model::BINDING;
 use crate::model::FOCUS;
 use crate::model::GIVEN;
 use crate::model::KIND;
+use crate::model::LENT;
 use crate::model::MADE;
+use crate::model::MARK;
+use crate::model::NEWEST;
+use crate::model::Node;
 use crate::model::OWN;
 use crate::model::PARENT;
 use crate::model::POST;
@@ -23,42 +25,103 @@ use crate::model::UNBOUND;
 use crate::model::VARS;
 use crate::model::WIND;
 use crate::model::cell;
+use crate::model::fits;
 use crate::model::head;
 use crate::model::of;
 use crate::model::place;
 use crate::model::put;
 use crate::model::put_head;
-use crate::model::size_of;
+use crate::model::put_node;
+use crate::model::size;
+use crate::model::take_tops;
 use crate::model::up;
 use crate::model::value;
 use layout::Store;
 
-// The most bytes that a store has, and some after it.
-pub(crate) const LARGEST: usize = Store::HEADER
-    + Store::CELL * Store::VARS
-    + Store::NODE * Store::NODES
-    + 64;
+// ---- what is in
 
-// ---- the image
-
-pub(crate) fn put_cell(w: &mut [u8], state: usize, at: usize, v: usize) {
-    if v == UNBOUND {
-        poke(w, state, 0);
-        spell32(w, at, 0);
-    } else {
-        poke(w, state, 1);
-        spell32(w, at, v);
+// The nodes from the focus up have the newest mark: these are in.
+pub(crate) fn mark(m: &mut [usize; SPACE]) {
+    let newest = plus(of(m, NEWEST, 0), 1);
+    let mut n = head(m, FOCUS);
+    put(m, NEWEST, 0, newest);
+    while 0 < n {
+        put(m, MARK, n, newest);
+        n = up(m, n);
     }
 }
 
-fn put_cells(m: &[usize; SPACE], w: &mut [u8]) {
-    let f = head(m, FOCUS);
-    let end = head(m, VARS);
-    let mut x = 0;
-    while x < end {
-        let at = place(Store::HEADER, Store::CELL, x);
-        put_cell(w, at, plus(at, 1), value(m, f, x));
-        x += 1;
+// Whether n is out (0) or in (1), as it was last marked.
+pub(crate) fn mode(m: &[usize; SPACE], n: usize) -> usize {
+    if of(m, MARK, n) == of(m, NEWEST, 0) {
+        1
+    } else {
+        0
+    }
+}
+
+// ---- a byte of the store
+
+// The first byte of a cell.
+fn state(v: usize) -> usize {
+    if v == UNBOUND { 0 } else { 1 }
+}
+
+fn cell_byte(m: &[usize; SPACE], i: usize) -> usize {
+    let v = value(m, head(m, FOCUS), i / Store::CELL);
+    match i % Store::CELL {
+        0 => state(v),
+        1 => part(v, 0),
+        2 => part(v, 1),
+        3 => part(v, 2),
+        _ => part(v, 3),
+    }
+}
+
+fn kind_byte(m: &[usize; SPACE], n: usize) -> usize {
+    match of(m, KIND, n) {
+        BINDING => plus(2, mode(m, n)),
+        WIND => plus(4, mode(m, n)),
+        _ => 1,
+    }
+}
+
+// What n stores: a binding that is out its own value, one that is in its variable's value at its parent.
+fn stored(m: &[usize; SPACE], n: usize) -> usize {
+    if of(m, KIND, n) != BINDING {
+        return UNBOUND;
+    }
+    match mode(m, n) {
+        0 => of(m, OWN, n),
+        _ => value(m, up(m, n), of(m, GIVEN, n)),
+    }
+}
+
+fn post(m: &[usize; SPACE], n: usize) -> usize {
+    match of(m, KIND, n) {
+        WIND => of(m, POST, n),
+        _ => 0,
+    }
+}
+
+// The byte k of the node n.
+fn node_part(m: &[usize; SPACE], n: usize, k: usize) -> usize {
+    match k {
+        0 => kind_byte(m, n),
+        1 => state(stored(m, n)),
+        2 | 3 => part(of(m, PARENT, n), k % 2),
+        4 | 5 => part(of(m, GIVEN, n), k % 2),
+        6 | 7 => part(post(m, n), k % 2),
+        _ => part(stored(m, n), k % 4),
+    }
+}
+
+fn node_byte(m: &[usize; SPACE], i: usize) -> usize {
+    let n = i / Store::NODE;
+    if n < head(m, MADE) {
+        node_part(m, n, i % Store::NODE)
+    } else {
+        0
     }
 }
 
@@ -66,129 +129,104 @@ pub(crate) fn node_at(v: usize, n: usize) -> usize {
     place(place(Store::HEADER, Store::CELL, v), Store::NODE, n)
 }
 
-// The node n, out (mode 0) or in (mode 1), with what it stores.
-fn put_node(m: &[usize; SPACE], w: &mut [u8], n: usize, mode: usize, stored: usize) {
-    let at = node_at(head(m, VARS), n);
-    let kind = of(m, KIND, n);
-    spell16(w, plus(at, 2), of(m, PARENT, n));
-    spell16(w, plus(at, 4), of(m, GIVEN, n));
-    if kind == BINDING {
-        poke(w, at, plus(2, mode));
-        put_cell(w, plus(at, 1), plus(at, 8), stored);
-    } else {
-        poke(w, at, plus(4, mode));
-        spell16(w, plus(at, 6), of(m, POST, n));
+// The byte that a store of the model's has at `at`. Bytes after its size are those that were lent.
+pub(crate) fn wanted(m: &[usize; SPACE], at: usize) -> usize {
+    let nodes = node_at(head(m, VARS), 0);
+    if at < Store::HEADER {
+        return part(head(m, at / 2), at % 2);
+    }
+    if at < nodes {
+        return cell_byte(m, at - Store::HEADER);
+    }
+    if at < size(m) {
+        return node_byte(m, at - nodes);
+    }
+    of(m, LENT, at)
+}
+
+// The first place before `end` where b has another byte, else `end`.
+pub(crate) fn differ_at(b: &[u8], m: &[usize; SPACE], end: usize) -> usize {
+    let mut i = 0;
+    while i < end {
+        if byte(b, i) != wanted(m, i) {
+            return i;
+        }
+        i += 1;
+    }
+    end
+}
+
+// The bytes that are lent.
+pub(crate) fn keep(b: &[u8], m: &mut [usize; SPACE]) {
+    let mut i = 0;
+    while i < b.len() {
+        put(m, LENT, i, byte(b, i));
+        i += 1;
     }
 }
 
-// Every node as one that is out: it stores its own value.
-fn put_nodes(m: &[usize; SPACE], w: &mut [u8]) {
-    let end = head(m, MADE);
-    let mut n = 1;
-    while n < end {
-        put_node(m, w, n, 0, of(m, OWN, n));
-        n += 1;
-    }
-}
-
-// What n stores when it is in: its variable's value at its parent.
-fn above(m: &[usize; SPACE], n: usize) -> usize {
-    if of(m, KIND, n) == BINDING {
-        value(m, up(m, n), of(m, GIVEN, n))
-    } else {
-        UNBOUND
-    }
-}
-
-// The nodes from the focus up as in.
-fn put_path(m: &[usize; SPACE], w: &mut [u8]) {
-    let mut n = head(m, FOCUS);
-    while 0 < n {
-        put_node(m, w, n, 1, above(m, n));
-        n = up(m, n);
-    }
-}
-
-fn put_header(m: &[usize; SPACE], w: &mut [u8]) {
-    spell16(w, 0, head(m, VARS));
-    spell16(w, 2, head(m, ROOM));
-    spell16(w, 4, head(m, MADE));
-    spell16(w, 6, head(m, FOCUS));
-}
-
-// Zeros, and the top's kind.
-fn put_blanks(m: &[usize; SPACE], w: &mut [u8]) {
-    let v = head(m, VARS);
-    clear(w, size_of(v, head(m, ROOM)));
-    poke(w, node_at(v, 0), 1);
-}
-
-// The store's bytes; those after its size are left.
-pub(crate) fn image(m: &[usize; SPACE], w: &mut [u8]) {
-    put_blanks(m, w);
-    put_header(m, w);
-    put_cells(m, w);
-    put_nodes(m, w);
-    put_path(m, w);
+// A cell of the value v, its state and its bits at these places.
+pub(crate) fn put_cell(b: &mut [u8], at: usize, bits: usize, v: usize) {
+    poke(b, at, state(v));
+    spell32(b, bits, v);
 }
 
 // ---- and back
 
-fn take_head(b: &[u8], m: &mut [usize; SPACE]) -> bool {
-    let v = number16(b, 0);
-    let n = number16(b, 2);
-    let made = number16(b, 4);
-    let f = number16(b, 6);
-    put_head(m, VARS, v);
-    put_head(m, ROOM, n);
-    put_head(m, MADE, made);
-    put_head(m, FOCUS, f);
-    if v < 1 || Store::VARS < v {
-        return false;
-    }
-    if n < 1 || Store::NODES < n {
-        return false;
-    }
-    if n < made || made <= f {
-        return false;
-    }
-    size_of(v, n) <= b.len()
+fn take_head(b: &[u8], m: &mut [usize; SPACE]) {
+    put_head(m, VARS, number16(b, 0));
+    put_head(m, ROOM, number16(b, 2));
+    put_head(m, MADE, number16(b, 4));
+    put_head(m, FOCUS, number16(b, 6));
 }
 
-// The cells, as if they were top values.
-fn take_cells(b: &[u8], m: &mut [usize; SPACE]) {
-    let end = head(m, VARS);
-    let mut x = 0;
-    while x < end {
-        let at = place(Store::HEADER, Store::CELL, x);
-        put(m, TOP, x, cell(b, plus(at, 1), at));
-        x += 1;
+fn head_ok(m: &[usize; SPACE], len: usize) -> bool {
+    if !fits(head(m, VARS), head(m, ROOM), len) {
+        return false;
+    }
+    if head(m, ROOM) < head(m, MADE) {
+        return false;
+    }
+    head(m, FOCUS) < head(m, MADE)
+}
+
+fn kind_of(k: usize) -> usize {
+    match k {
+        2 | 3 => BINDING,
+        4 | 5 => WIND,
+        _ => 0,
     }
 }
 
-// The node n, as if it were out; false where it is no node at all.
+// The node at `at`, as if it were out.
+fn node_in(b: &[u8], at: usize) -> Node {
+    Node {
+        kind: kind_of(byte(b, at)),
+        parent: number16(b, plus(at, 2)),
+        given: number16(b, plus(at, 4)),
+        post: number16(b, plus(at, 6)),
+        own: cell(b, plus(at, 8), plus(at, 1)),
+    }
+}
+
+// Whether e can be the node n where there are v variables.
+fn node_ok(e: Node, n: usize, v: usize) -> bool {
+    if n <= e.parent {
+        return false;
+    }
+    let kind = e.kind;
+    match kind {
+        BINDING => e.given < v,
+        WIND => true,
+        _ => false,
+    }
+}
+
 fn take_node(b: &[u8], m: &mut [usize; SPACE], n: usize) -> bool {
     let v = head(m, VARS);
-    let at = node_at(v, n);
-    let k = byte(b, at);
-    let parent = number16(b, plus(at, 2));
-    let given = number16(b, plus(at, 4));
-    put(m, PARENT, n, parent);
-    put(m, GIVEN, n, given);
-    put(m, POST, n, number16(b, plus(at, 6)));
-    put(m, OWN, n, cell(b, plus(at, 8), plus(at, 1)));
-    if n <= parent {
-        return false;
-    }
-    if k == 4 || k == 5 {
-        put(m, KIND, n, WIND);
-        return true;
-    }
-    put(m, KIND, n, BINDING);
-    if k == 2 || k == 3 {
-        return given < v;
-    }
-    false
+    let e = node_in(b, node_at(v, n));
+    put_node(m, n, e);
+    node_ok(e, n, v)
 }
 
 fn take_nodes(b: &[u8], m: &mut [usize; SPACE]) -> bool {
@@ -203,40 +241,44 @@ fn take_nodes(b: &[u8], m: &mut [usize; SPACE]) -> bool {
     true
 }
 
-// A binding that is in: its own value is the one below it, and it stores the one above.
-fn turn(m: &mut [usize; SPACE], n: usize) {
-    if of(m, KIND, n) == BINDING {
-        let x = of(m, GIVEN, n);
-        let v = of(m, TOP, x);
-        put(m, TOP, x, of(m, OWN, n));
-        put(m, OWN, n, v);
+fn exchange(m: &mut [usize; SPACE], i: usize, j: usize) {
+    let a = of(m, i, 0);
+    let b = of(m, j, 0);
+    put(m, i, 0, b);
+    put(m, j, 0, a);
+}
+
+// Where the value is that a node has exchanged for its own; its own place for a wind.
+fn other_at(m: &[usize; SPACE], n: usize) -> usize {
+    match of(m, KIND, n) {
+        BINDING => plus(TOP, of(m, GIVEN, n)),
+        _ => plus(OWN, n),
     }
 }
 
-// From the focus up: own values and top values.
+// From the focus up: own values and top values. The own value of a binding that is in is the one below it, and it stores
+// the one above.
 fn take_path(m: &mut [usize; SPACE]) {
     let mut n = head(m, FOCUS);
     while 0 < n {
-        turn(m, n);
+        let at = other_at(m, n);
+        exchange(m, at, plus(OWN, n));
         n = up(m, n);
     }
 }
 
-// Whether the bytes are a sound store; then m is its model.
+// Whether the bytes are a sound store; then m has its model.
 pub(crate) fn take(b: &[u8], m: &mut [usize; SPACE]) -> bool {
-    if b.len() < Store::HEADER {
+    take_head(b, m);
+    if !head_ok(m, b.len()) {
         return false;
     }
-    if !take_head(b, m) {
-        return false;
-    }
-    take_cells(b, m);
+    take_tops(m, number16(b, 0), b, Store::HEADER);
     if !take_nodes(b, m) {
         return false;
     }
     take_path(m);
-    let mut w = [0u8; LARGEST];
-    image(m, &mut w);
-    let size = size_of(head(m, VARS), head(m, ROOM));
-    differ_at(b, &w, size) == size
+    mark(m);
+    let end = size(m);
+    differ_at(b, m, end) == end
 }

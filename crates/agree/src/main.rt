@@ -3,40 +3,23 @@
 mod ask;
 mod buffer;
 mod compare;
+mod damage;
 mod draw;
 mod image;
 mod model;
+mod parents;
 mod run;
 mod say;
 
 // Seeds are 1 to this number.
 const SEQUENCES: usize = 6_000;
 
-// What kind of disagreement was found.
-fn named(found: usize) {
-    match found {
-        compare::ANSWER => say::text(b"the answers differ\n"),
-        compare::TRACE => say::text(b"the trace differs\n"),
-        compare::BYTES => say::text(b"the bytes of the store differ\n"),
-        compare::VALUE => say::text(b"a value differs\n"),
-        compare::REFUSAL => say::text(b"a damaged store was not refused, or a byte changed\n"),
-        _ => say::text(b"the program has an error of its own\n"),
-    }
-}
-
-// The sequence once more, with its operations written.
-fn show(seed: usize) {
-    let mut c = [0usize; compare::COUNTS];
-    let found = run::sequence(true, seed, &mut c);
-    named(found);
-}
-
-// Runs all sequences; false at the first disagreement.
-fn all(c: &mut [usize; compare::COUNTS]) -> bool {
+// Runs all sequences; at the first disagreement the sequence runs once more, with its operations written.
+fn all(m: &mut [usize; model::SPACE]) -> bool {
     let mut seed = 1;
     while seed <= SEQUENCES {
-        if run::sequence(false, seed, c) != 0 {
-            show(seed);
+        if run::sequence(false, seed, m) != 0 {
+            say::found(run::sequence(true, seed, m));
             return false;
         }
         seed += 1;
@@ -44,49 +27,20 @@ fn all(c: &mut [usize; compare::COUNTS]) -> bool {
     true
 }
 
-fn refusal(c: &[usize; compare::COUNTS], code: usize) {
-    say::text(b"refused with ");
-    say::number(code);
-    say::line(b"", compare::counted(c, code));
-}
-
-fn refusals(c: &[usize; compare::COUNTS]) {
-    let mut code = 1;
-    while code < 9 {
-        refusal(c, code);
-        code += 1;
+// The counts from one number on, before another.
+fn counts(m: &[usize; model::SPACE], from: usize, end: usize) {
+    let mut i = from;
+    while i < end {
+        say::row(i, model::of(m, model::COUNTED, i), 0, 0);
+        i += 1;
     }
-}
-
-fn own_parents(c: &[usize; compare::COUNTS]) {
-    say::line(
-        b"own parents up to 255 refused",
-        compare::counted(c, compare::OWN_LOW),
-    );
-    say::line(
-        b"own parents above 255 refused",
-        compare::counted(c, compare::OWN_HIGH),
-    );
 }
 
 fn main() {
-    let mut c = [0usize; compare::COUNTS];
-    if !all(&mut c) {
-        return;
+    let mut m = [0usize; model::SPACE];
+    if all(&mut m) {
+        counts(&m, compare::SEQUENCES, compare::VALUES);
+        counts(&m, 1, 9);
+        counts(&m, compare::VALUES, model::COUNTS);
     }
-    say::line(b"sequences", compare::counted(&c, compare::SEQUENCES));
-    say::line(b"operations", compare::counted(&c, compare::OPERATIONS));
-    refusals(&c);
-    say::line(b"values compared", compare::counted(&c, compare::VALUES));
-    say::line(b"moves compared", compare::counted(&c, compare::MOVES));
-    say::line(b"events compared", compare::counted(&c, compare::EVENTS));
-    say::line(
-        b"damaged stores refused",
-        compare::counted(&c, compare::BROKEN),
-    );
-    say::line(
-        b"changed stores still sound",
-        compare::counted(&c, compare::CHANGED),
-    );
-    own_parents(&c);
 }

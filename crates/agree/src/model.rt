@@ -2,14 +2,16 @@
 // environment to the nearest binding; what a switch moves and tells is found by comparing two paths to the top.
 ghost use Prim.Native.Nat.{_-_, _≤_};
 use crate::buffer::byte;
+use crate::buffer::less;
 use crate::buffer::number32;
 use crate::buffer::plus;
 use crate::buffer::poke;
-use crate::buffer::spell16;
+use crate::buffer::spell32;
 use layout::Store;
 
-// One array is the model, a field after the other: of each environment its kind, parent, variable or prelude, postlude and
-// own value; then the top values; then V, N, made and the focus.
+// One array has all numbers that the program keeps, a field after the other. The model: of each environment its kind, parent,
+// variable or prelude, postlude and own value; then the top values; then V, N, made and the focus. After it, what is compared
+// with: a mark for each environment, the newest mark, the counts, and the bytes that were lent.
 pub(crate) const KIND: usize = 0;
 
 pub(crate) const PARENT: usize = Store::NODES;
@@ -24,9 +26,25 @@ pub(crate) const TOP: usize = 5 * Store::NODES;
 
 const HEAD: usize = 5 * Store::NODES + Store::VARS;
 
-pub(crate) const SPACE: usize = 5 * Store::NODES + Store::VARS + 4;
+pub(crate) const MARK: usize = HEAD + 4;
 
-// Places in the head.
+pub(crate) const NEWEST: usize = MARK + Store::NODES;
+
+pub(crate) const COUNTED: usize = NEWEST + 1;
+
+pub(crate) const COUNTS: usize = 19;
+
+pub(crate) const LENT: usize = COUNTED + COUNTS;
+
+// The most bytes that a store has, and some after it.
+pub(crate) const LARGEST: usize = Store::HEADER
+    + Store::CELL * Store::VARS
+    + Store::NODE * Store::NODES
+    + 64;
+
+pub(crate) const SPACE: usize = LENT + LARGEST;
+
+// Places in the head, in the order of a store's header.
 pub(crate) const VARS: usize = 0;
 
 pub(crate) const ROOM: usize = 1;
@@ -55,33 +73,31 @@ pub(crate) struct Says {
     pub by: usize,
 }
 
-pub(crate) fn refused(code: usize) -> Says {
+pub(crate) fn answered(code: usize, out: usize, moves: usize, events: usize) -> Says {
     Says {
         code,
-        out: 0,
-        moves: 0,
-        events: 0,
+        out,
+        moves,
+        events,
         by: NO_ONE,
     }
 }
 
-fn done(out: usize) -> Says {
+pub(crate) fn refused(code: usize) -> Says {
+    answered(code, 0, 0, 0)
+}
+
+pub(crate) fn done(out: usize) -> Says {
+    answered(0, out, 0, 0)
+}
+
+pub(crate) fn seen(out: usize, by: usize) -> Says {
     Says {
         code: 0,
         out,
         moves: 0,
         events: 0,
-        by: NO_ONE,
-    }
-}
-
-fn seen(f: Found) -> Says {
-    Says {
-        code: 0,
-        out: f.value,
-        moves: 0,
-        events: 0,
-        by: f.by,
+        by,
     }
 }
 
@@ -115,6 +131,23 @@ pub(crate) fn up(m: &[usize; SPACE], n: usize) -> usize
     if p < n { p } else { 0 }
 }
 
+// An environment other than the top.
+pub(crate) struct Node {
+    pub kind: usize,
+    pub parent: usize,
+    pub given: usize,
+    pub post: usize,
+    pub own: usize,
+}
+
+pub(crate) fn put_node(m: &mut [usize; SPACE], n: usize, e: Node) {
+    put(m, KIND, n, e.kind);
+    put(m, PARENT, n, e.parent);
+    put(m, GIVEN, n, e.given);
+    put(m, POST, n, e.post);
+    put(m, OWN, n, e.own);
+}
+
 // ---- values
 
 fn binds(m: &[usize; SPACE], n: usize, x: usize) -> bool {
@@ -137,36 +170,17 @@ fn decider(m: &[usize; SPACE], a: usize, x: usize) -> usize {
     0
 }
 
-fn own(m: &[usize; SPACE], d: usize, x: usize) -> usize {
-    if d == 0 { of(m, TOP, x) } else { of(m, OWN, d) }
-}
-
-// A lookup: which node decides, 0 for the top, and its own value.
-struct Found {
-    pub by: usize,
-    pub value: usize,
-}
-
-fn lookup(m: &[usize; SPACE], a: usize, x: usize) -> Found {
-    let by = decider(m, a, x);
-    Found {
-        by,
-        value: own(m, by, x),
+// Where the array has the own value of the decider d of x.
+fn own_at(d: usize, x: usize) -> usize {
+    match d {
+        0 => plus(TOP, x),
+        _ => plus(OWN, d),
     }
 }
 
 // The value of x at a, or that there is none.
 pub(crate) fn value(m: &[usize; SPACE], a: usize, x: usize) -> usize {
-    let f = lookup(m, a, x);
-    f.value
-}
-
-fn set_own(m: &mut [usize; SPACE], d: usize, x: usize, v: usize) {
-    if d == 0 {
-        put(m, TOP, x, v);
-    } else {
-        put(m, OWN, d, v);
-    }
+    of(m, own_at(decider(m, a, x), x), 0)
 }
 
 // ---- paths
@@ -201,19 +215,14 @@ fn same_below(
     nq: usize,
     k: usize,
 ) -> bool {
-    if np <= k {
-        return false;
-    }
     if nq <= k {
         return false;
     }
-    item(p, np - k - 1) == item(q, nq - k - 1)
+    item(p, less(less(np, k), 1)) == item(q, less(less(nq, k), 1))
 }
 
 // How many nodes the two paths have in common: their ends at the top.
-fn shared(p: &[usize; Store::NODES], np: usize, q: &[usize; Store::NODES], nq: usize) -> usize
-    ensures { λ r. ⌜ r ≤ np ⌝ }
-{
+fn shared(p: &[usize; Store::NODES], np: usize, q: &[usize; Store::NODES], nq: usize) -> usize {
     let mut k = 0;
     while k < np {
         if !same_below(p, np, q, nq, k) {
@@ -230,26 +239,20 @@ fn shared(p: &[usize; Store::NODES], np: usize, q: &[usize; Store::NODES], nq: u
 fn note(notes: &mut [u8], e: usize, way: usize, thunk: usize, place: usize) {
     let at = Store::EVENT * (e % Store::NODES);
     poke(notes, at, way);
-    spell16(notes, plus(at, 1), thunk);
-    spell16(notes, plus(at, 3), place);
+    spell32(notes, plus(at, 1), plus(thunk, 65_536 * (place % 65_536)));
 }
 
-// Leaving n, told if it is a wind: the events so far. The place is the wind's parent.
-fn leave(m: &[usize; SPACE], n: usize, notes: &mut [u8], e: usize) -> usize {
-    if of(m, KIND, n) == WIND {
-        note(notes, e, 0, of(m, POST, n), of(m, PARENT, n));
-        return plus(e, 1);
+// Leaving n (way 0) or entering it (way 1), told if it is a wind: the events so far. The place is the wind's parent.
+fn tell(m: &[usize; SPACE], n: usize, way: usize, notes: &mut [u8], e: usize) -> usize {
+    if of(m, KIND, n) != WIND {
+        return e;
     }
-    e
-}
-
-// Entering n, told if it is a wind: the events so far. The place is the wind's parent.
-fn enter(m: &[usize; SPACE], n: usize, notes: &mut [u8], e: usize) -> usize {
-    if of(m, KIND, n) == WIND {
-        note(notes, e, 1, of(m, GIVEN, n), of(m, PARENT, n));
-        return plus(e, 1);
-    }
-    e
+    let thunk = match way {
+        0 => of(m, POST, n),
+        _ => of(m, GIVEN, n),
+    };
+    note(notes, e, way, thunk, of(m, PARENT, n));
+    plus(e, 1)
 }
 
 // Leaving the first n nodes of a path, from its beginning on.
@@ -257,7 +260,7 @@ fn leave_all(m: &[usize; SPACE], p: &[usize; Store::NODES], n: usize, notes: &mu
     let mut e = 0;
     let mut k = 0;
     while k < n {
-        e = leave(m, item(p, k), notes, e);
+        e = tell(m, item(p, k), 0, notes, e);
         k += 1;
     }
     e
@@ -275,40 +278,36 @@ fn enter_all(
     let mut k = n;
     while 0 < k {
         k -= 1;
-        e = enter(m, item(p, k), notes, e);
+        e = tell(m, item(p, k), 1, notes, e);
     }
     e
 }
 
 // The answer of a switch to a: every node of one path that the other has not is left or entered once.
-pub(crate) fn way(m: &[usize; SPACE], a: usize, notes: &mut [u8]) -> Says {
+pub(crate) fn way(m: &[usize; SPACE], a: usize, room: usize, notes: &mut [u8]) -> Says {
     let mut p = [0usize; Store::NODES];
     let mut q = [0usize; Store::NODES];
     let np = path(m, head(m, FOCUS), &mut p);
     let nq = path(m, a, &mut q);
     let k = shared(&p, np, &q, nq);
-    let left = std::num::wrapping_sub_usize(np, k);
-    let entered = std::num::wrapping_sub_usize(nq, k);
+    let left = less(np, k);
+    let entered = less(nq, k);
     let e = leave_all(m, &p, left, notes);
-    Says {
-        code: 0,
-        out: a,
-        moves: plus(left, entered),
-        events: enter_all(m, &q, entered, notes, e),
-        by: NO_ONE,
+    let events = enter_all(m, &q, entered, notes, e);
+    if room < events {
+        return refused(7);
     }
+    answered(0, a, plus(left, entered), events)
 }
 
-// ---- the calls
+// ---- bytes
 
 fn proper(b: &[u8], at: usize) -> bool {
-    if byte(b, at) == 1 {
-        return true;
+    match byte(b, at) {
+        0 => number32(b, plus(at, 1)) == 0,
+        1 => true,
+        _ => false,
     }
-    if byte(b, at) == 0 {
-        return number32(b, plus(at, 1)) == 0;
-    }
-    false
 }
 
 // The cell at `at`: its bits, or that it has none.
@@ -332,6 +331,26 @@ pub(crate) fn size_of(v: usize, n: usize) -> usize {
     )
 }
 
+// The size of the model's store.
+pub(crate) fn size(m: &[usize; SPACE]) -> usize {
+    size_of(head(m, VARS), head(m, ROOM))
+}
+
+fn up_to(n: usize, most: usize) -> bool {
+    if 0 < n { n <= most } else { false }
+}
+
+// Whether V and N are in range and a buffer of this length is enough.
+pub(crate) fn fits(v: usize, n: usize, len: usize) -> bool {
+    if !up_to(v, Store::VARS) {
+        return false;
+    }
+    if !up_to(n, Store::NODES) {
+        return false;
+    }
+    size_of(v, n) <= len
+}
+
 // Whether the first v cells are proper.
 fn tops_proper(v: usize, tops: &[u8]) -> bool {
     let mut x = 0;
@@ -344,23 +363,23 @@ fn tops_proper(v: usize, tops: &[u8]) -> bool {
     true
 }
 
-fn take_tops(m: &mut [usize; SPACE], v: usize, tops: &[u8]) {
+// The top values: v cells from `start` on.
+pub(crate) fn take_tops(m: &mut [usize; SPACE], v: usize, b: &[u8], start: usize) {
     let mut x = 0;
     while x < v {
-        let at = place(0, Store::BARE, x);
-        put(m, TOP, x, cell(tops, plus(at, 1), at));
+        let at = place(start, Store::BARE, x);
+        put(m, TOP, x, cell(b, plus(at, 1), at));
         x += 1;
     }
 }
 
+// ---- the calls: what each answers, and what is then another
+
 fn openable(v: usize, n: usize, tops: &[u8], len: usize) -> bool {
-    if v < 1 || Store::VARS < v {
+    if !fits(v, n, len) {
         return false;
     }
-    if n < 1 || Store::NODES < n {
-        return false;
-    }
-    if tops.len() != place(0, Store::BARE, v) || len < size_of(v, n) {
+    if tops.len() != place(0, Store::BARE, v) {
         return false;
     }
     tops_proper(v, tops)
@@ -370,7 +389,7 @@ pub(crate) fn open(m: &mut [usize; SPACE], v: usize, n: usize, tops: &[u8], len:
     if !openable(v, n, tops, len) {
         return refused(1);
     }
-    take_tops(m, v, tops);
+    take_tops(m, v, tops, 0);
     put_head(m, VARS, v);
     put_head(m, ROOM, n);
     put_head(m, MADE, 1);
@@ -382,50 +401,44 @@ pub(crate) fn is_full(m: &[usize; SPACE]) -> bool {
     head(m, MADE) == head(m, ROOM)
 }
 
-// A new node, child of the focus, becomes the focus: its number.
-fn grow(m: &mut [usize; SPACE], kind: usize, given: usize, post: usize, v: usize) -> usize {
-    let n = head(m, MADE);
-    put(m, KIND, n, kind);
-    put(m, PARENT, n, head(m, FOCUS));
-    put(m, GIVEN, n, given);
-    put(m, POST, n, post);
-    put(m, OWN, n, v);
-    put_head(m, MADE, plus(n, 1));
-    put_head(m, FOCUS, n);
-    n
-}
-
-pub(crate) fn bind(m: &mut [usize; SPACE], x: usize, v: usize) -> Says {
+pub(crate) fn bind(m: &[usize; SPACE], x: usize) -> Says {
     if head(m, VARS) <= x {
         return refused(3);
     }
     if is_full(m) {
         return refused(6);
     }
-    done(grow(m, BINDING, x, 0, v))
+    done(head(m, MADE))
 }
 
-pub(crate) fn wind(
-    m: &mut [usize; SPACE],
-    p: usize,
-    q: usize,
-    room: usize,
-    notes: &mut [u8],
-) -> Says {
+pub(crate) fn wind(m: &[usize; SPACE], p: usize, room: usize, notes: &mut [u8]) -> Says {
     if is_full(m) {
         return refused(6);
     }
     if room < 1 {
         return refused(7);
     }
-    let n = grow(m, WIND, p, q, UNBOUND);
-    Says {
-        code: 0,
-        out: n,
-        moves: 0,
-        events: enter(m, n, notes, 0),
-        by: NO_ONE,
-    }
+    note(notes, 0, 1, p, head(m, FOCUS));
+    answered(0, head(m, MADE), 0, 1)
+}
+
+// A new node, child of the focus, becomes the focus.
+pub(crate) fn grow(m: &mut [usize; SPACE], kind: usize, given: usize, post: usize, own: usize) {
+    let n = head(m, MADE);
+    let parent = head(m, FOCUS);
+    put_node(
+        m,
+        n,
+        Node {
+            kind,
+            parent,
+            given,
+            post,
+            own,
+        },
+    );
+    put_head(m, MADE, plus(n, 1));
+    put_head(m, FOCUS, n);
 }
 
 pub(crate) fn peek(m: &[usize; SPACE], a: usize, x: usize) -> Says {
@@ -435,11 +448,11 @@ pub(crate) fn peek(m: &[usize; SPACE], a: usize, x: usize) -> Says {
     if head(m, MADE) <= a {
         return refused(4);
     }
-    let f = lookup(m, a, x);
-    if f.value == UNBOUND {
+    let v = value(m, a, x);
+    if v == UNBOUND {
         return refused(5);
     }
-    seen(f)
+    seen(v, decider(m, a, x))
 }
 
 pub(crate) fn look(m: &[usize; SPACE], x: usize) -> Says {
@@ -450,39 +463,37 @@ pub(crate) fn here(m: &[usize; SPACE]) -> Says {
     done(head(m, FOCUS))
 }
 
-pub(crate) fn set(m: &mut [usize; SPACE], x: usize, v: usize) -> Says {
-    let f = head(m, FOCUS);
-    if head(m, VARS) <= x {
-        return refused(3);
+// Set is refused where look is.
+pub(crate) fn set(m: &[usize; SPACE], x: usize) -> Says {
+    let r = look(m, x);
+    let code = r.code;
+    match code {
+        0 => here(m),
+        _ => refused(code),
     }
-    let d = lookup(m, f, x);
-    if d.value == UNBOUND {
-        return refused(5);
-    }
-    set_own(m, d.by, x, v);
-    done(f)
 }
 
-fn switch(m: &mut [usize; SPACE], a: usize, room: usize, notes: &mut [u8]) -> Says {
-    let w = way(m, a, notes);
-    if room < w.events {
-        return refused(7);
-    }
-    put_head(m, FOCUS, a);
-    w
+// Where the array has the value of x at the focus.
+fn decided_at(m: &[usize; SPACE], x: usize) -> usize {
+    own_at(decider(m, head(m, FOCUS), x), x)
 }
 
-pub(crate) fn goto(m: &mut [usize; SPACE], a: usize, room: usize, notes: &mut [u8]) -> Says {
+pub(crate) fn put_value(m: &mut [usize; SPACE], x: usize, v: usize) {
+    let at = decided_at(m, x);
+    put(m, at, 0, v);
+}
+
+pub(crate) fn goto(m: &[usize; SPACE], a: usize, room: usize, notes: &mut [u8]) -> Says {
     if head(m, MADE) <= a {
         return refused(4);
     }
-    switch(m, a, room, notes)
+    way(m, a, room, notes)
 }
 
-pub(crate) fn back(m: &mut [usize; SPACE], room: usize, notes: &mut [u8]) -> Says {
+pub(crate) fn back(m: &[usize; SPACE], room: usize, notes: &mut [u8]) -> Says {
     let f = head(m, FOCUS);
     if f == 0 {
         return refused(8);
     }
-    switch(m, up(m, f), room, notes)
+    way(m, up(m, f), room, notes)
 }

@@ -1,30 +1,110 @@
 // What the program writes: counts, and at a disagreement the sequence, an operation to a line as a card has it.
-use crate::draw;
 use crate::draw::Op;
 use crate::draw::Plan;
 use crate::model::NO_ONE;
 use crate::model::Says;
 use libc::STDOUT_FILENO;
 
-pub(crate) fn text(t: &[u8]) {
-    io::write_all(STDOUT_FILENO, t);
-}
+// Each row ends in a dot. A, B and C stand for three numbers, V for B as the bits of a value, and / ends a line. There is a row
+// for each count by its number, then for the kinds of sequences, for what is found, for the operations, and the rows below.
+const TEXT: usize = 1123;
 
-pub(crate) fn number(n: usize) {
+const ROWS: [u8; TEXT] = *b".\
+    refused with 1=A/.\
+    refused with 2=A/.\
+    refused with 3=A/.\
+    refused with 4=A/.\
+    refused with 5=A/.\
+    refused with 6=A/.\
+    refused with 7=A/.\
+    refused with 8=A/.\
+    .\
+    sequences=A/.\
+    operations=A/.\
+    values compared=A/.\
+    moves compared=A/.\
+    events compared=A/.\
+    damaged stores refused=A/.\
+    changed stores still sound=A/.\
+    own parents up to 255 refused=A/.\
+    own parents above 255 refused=A/.\
+    deep.\
+    bushy.\
+    same variable.\
+    winds.\
+    jumps.\
+    full.\
+    damaged.\
+    rooms.\
+    edges.\
+    unbound.\
+    the answers differ/.\
+    the trace differs/.\
+    the bytes of the store differ/.\
+    a value differs/.\
+    a damaged store was not refused, or a byte changed/.\
+    the program has an error of its own/.\
+    bind=A,V trace bytes=C/.\
+    wind=A,B trace bytes=C/.\
+    look=A trace bytes=C/.\
+    set=A,V trace bytes=C/.\
+    here=now trace bytes=C/.\
+    goto=A trace bytes=C/.\
+    back=1 trace bytes=C/.\
+    peek=A,B trace bytes=C/.\
+    seed=A kind=.\
+    \x20lent after the store=A/vars=B/nodes=C/.\
+    model: code=A out=V.\
+    store: code=A out=V.\
+    \x20moves=A events=B by=C/.\
+    \x20moves=A events=B by=none/.\
+    byte=A model=B store=C/.\
+    the value of variable=A at=B/.\
+    damage: byte=A plus=B/.\
+    hollow: cell at byte=A/.\
+    open: vars=A nodes=B bytes of top cells=C/.\
+    here with the first bytes=A/.\
+    its own parent: node=A/.";
+
+const KINDS: usize = 19;
+
+const FOUND: usize = 28;
+
+const OPERATIONS: usize = 35;
+
+const SEED: usize = 43;
+
+const PLAN: usize = 44;
+
+const MODEL: usize = 45;
+
+const STORE: usize = 46;
+
+const SEEN: usize = 47;
+
+const UNSEEN: usize = 48;
+
+pub(crate) const BYTE: usize = 49;
+
+pub(crate) const VALUE: usize = 50;
+
+pub(crate) const DAMAGE: usize = 51;
+
+pub(crate) const HOLLOW: usize = 52;
+
+pub(crate) const OPEN: usize = 53;
+
+pub(crate) const CUT: usize = 54;
+
+pub(crate) const PARENT: usize = 55;
+
+fn number(n: usize) {
     io::print_decimal(STDOUT_FILENO, n as u64);
 }
 
-// `name=n`
-pub(crate) fn field(name: &[u8], n: usize) {
-    text(name);
-    text(b"=");
-    number(n);
-}
-
-// A line `name=n`.
-pub(crate) fn line(name: &[u8], n: usize) {
-    field(name, n);
-    text(b"\n");
+fn sign(c: u8) {
+    let t = [c];
+    io::write_all(STDOUT_FILENO, &t);
 }
 
 // The value with these bits.
@@ -32,89 +112,87 @@ fn value(bits: usize) {
     if bits < 2_147_483_648 {
         number(bits);
     } else {
-        text(b"-");
+        sign(b'-');
         number(std::num::wrapping_sub_usize(4_294_967_296, bits));
     }
 }
 
-fn pair(one: usize, two: usize) {
-    number(one);
-    text(b",");
-    number(two);
-}
-
-fn given(name: &[u8], x: usize, bits: usize) {
-    field(name, x);
-    text(b",");
-    value(bits);
-}
-
-fn kind(k: usize) {
-    match k {
-        draw::DEEP => text(b"deep"),
-        draw::BUSHY => text(b"bushy"),
-        draw::SAME => text(b"same variable"),
-        draw::WINDS => text(b"winds"),
-        draw::JUMPS => text(b"jumps"),
-        draw::FULL => text(b"full"),
-        draw::DAMAGED => text(b"damaged"),
-        draw::ROOMS => text(b"rooms"),
-        draw::EDGES => text(b"edges"),
-        _ => text(b"unbound"),
+// What a sign of a row stands for.
+fn shown(c: u8, a: usize, b: usize, d: usize) {
+    match c {
+        b'A' => number(a),
+        b'B' => number(b),
+        b'C' => number(d),
+        b'V' => value(b),
+        b'/' => sign(10),
+        _ => sign(c),
     }
 }
 
-pub(crate) fn plan(seed: usize, p: Plan) {
-    field(b"seed", seed);
-    text(b" kind=");
-    kind(p.kind);
-    line(b" lent after the store", p.slack);
-    line(b"vars", p.vars);
-    line(b"nodes", p.nodes);
+// The sign at i, in row k, is shown if that is the row asked for; the next sign's row.
+fn passed(k: usize, i: usize, row: usize, a: usize, b: usize, d: usize) -> usize {
+    let c = ROWS[i % TEXT];
+    if c == b'.' {
+        return std::num::wrapping_add_usize(k, 1);
+    }
+    if k == row {
+        shown(c, a, b, d);
+    }
+    k
 }
 
-fn named(o: Op) {
-    let what = o.what;
+// A row with its numbers.
+pub(crate) fn row(row: usize, a: usize, b: usize, d: usize) {
+    let mut k = 0;
+    let mut i = 0;
+    while i < TEXT {
+        k = passed(k, i, row, a, b, d);
+        i += 1;
+    }
+}
+
+// A row of a sequence that is written.
+pub(crate) fn line(loud: bool, which: usize, a: usize, b: usize, d: usize) {
+    if loud {
+        row(which, a, b, d);
+    }
+}
+
+// What kind of disagreement was found.
+pub(crate) fn found(kind: usize) {
+    row(FOUND + kind % 8, 0, 0, 0);
+}
+
+pub(crate) fn plan(loud: bool, seed: usize, p: Plan) {
+    line(loud, SEED, seed, 0, 0);
+    line(loud, KINDS + p.kind % 10, 0, 0, 0);
+    line(loud, PLAN, p.slack, p.vars, p.nodes);
+}
+
+fn which(what: u8) -> usize {
     match what {
-        b'b' => given(b"bind", o.one, o.two),
-        b'w' => {
-            text(b"wind=");
-            pair(o.one, o.two);
-        }
-        b'l' => field(b"look", o.one),
-        b's' => given(b"set", o.one, o.two),
-        b'h' => text(b"here=now"),
-        b'g' => field(b"goto", o.one),
-        b'k' => text(b"back=1"),
-        _ => {
-            text(b"peek=");
-            pair(o.one, o.two);
-        }
+        b'b' => 0,
+        b'w' => 1,
+        b'l' => 2,
+        b's' => 3,
+        b'h' => 4,
+        b'g' => 5,
+        b'k' => 6,
+        _ => 7,
     }
 }
 
-pub(crate) fn operation(o: Op) {
-    let trace = o.trace;
-    named(o);
-    line(b" trace bytes", trace);
+pub(crate) fn operation(loud: bool, o: Op) {
+    line(loud, OPERATIONS + which(o.what) % 8, o.one, o.two, o.trace);
 }
 
-fn decider(by: usize) {
-    if by == NO_ONE {
-        text(b"none");
-    } else {
-        number(by);
-    }
+fn answer(loud: bool, who: usize, a: Says) {
+    let seen = if a.by == NO_ONE { UNSEEN } else { SEEN };
+    line(loud, who, a.code, a.out, 0);
+    line(loud, seen, a.moves, a.events, a.by);
 }
 
-pub(crate) fn answer(who: &[u8], a: Says) {
-    text(who);
-    field(b": code", a.code);
-    text(b" out=");
-    value(a.out);
-    field(b" moves", a.moves);
-    field(b" events", a.events);
-    text(b" by=");
-    decider(a.by);
-    text(b"\n");
+pub(crate) fn answers(loud: bool, want: Says, got: Says) {
+    answer(loud, MODEL, want);
+    answer(loud, STORE, got);
 }

@@ -4,10 +4,10 @@ use Rattle.agree.proofs.all.Statement.{statement}
 use Rattle.agree.proofs.all.Tie as tie
 
 abbrev Inv-loop : tie.InvT-loop
-Inv-loop c₀ seed₀ c seed = seed ≤ 6001
+Inv-loop m₀ seed₀ m seed = seed ≤ 6001
 
 abbrev μ-loop : tie.MeasureT-loop
-μ-loop c₀ seed₀ c seed = 6001 - seed
+μ-loop m₀ seed₀ m seed = 6001 - seed
 
 loop-holds : tie.Need-loop-holds Inv-loop μ-loop
 loop-holds c = search needs
@@ -15,8 +15,11 @@ loop-holds c = search needs
 sequence-requires : tie.Need-sequence-requires Inv-loop μ-loop
 sequence-requires c κs = search needs
 
-show-requires : tie.Need-show-requires Inv-loop μ-loop
-show-requires c κs = search needs
+sequence-requires-2 : tie.Need-sequence-requires-2 Inv-loop μ-loop
+sequence-requires-2 c κs = search needs
+
+found-requires : tie.Need-found-requires Inv-loop μ-loop
+found-requires c κs = search needs
 
 returns : tie.Need-returns Inv-loop μ-loop
 returns c = search needs
@@ -41,7 +44,8 @@ all-spec =
     μ-loop
     loop-holds
     sequence-requires
-    show-requires
+    sequence-requires-2
+    found-requires
     returns
     add-seed
     loop-less

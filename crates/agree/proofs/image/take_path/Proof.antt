@@ -15,8 +15,14 @@ head-requires c κs = search needs
 loop-holds : tie.Need-loop-holds Inv-loop μ-loop
 loop-holds c = search needs
 
-turn-requires : tie.Need-turn-requires Inv-loop μ-loop
-turn-requires c κs = search needs
+other-at-requires : tie.Need-other-at-requires Inv-loop μ-loop
+other-at-requires c κs = search needs
+
+plus-requires : tie.Need-plus-requires Inv-loop μ-loop
+plus-requires c κs = search needs
+
+exchange-requires : tie.Need-exchange-requires Inv-loop μ-loop
+exchange-requires c κs = search needs
 
 up-requires : tie.Need-up-requires Inv-loop μ-loop
 up-requires c κs = search needs
@@ -38,7 +44,9 @@ take-path-spec =
     μ-loop
     head-requires
     loop-holds
-    turn-requires
+    other-at-requires
+    plus-requires
+    exchange-requires
     up-requires
     loop-less
     loop-again

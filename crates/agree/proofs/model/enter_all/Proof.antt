@@ -19,8 +19,8 @@ sub-k c = search needs
 item-requires : tie.Need-item-requires Inv-loop μ-loop
 item-requires c κs = search needs
 
-enter-requires : tie.Need-enter-requires Inv-loop μ-loop
-enter-requires c κs = search needs
+tell-requires : tie.Need-tell-requires Inv-loop μ-loop
+tell-requires c κs = search needs
 
 loop-less : tie.Need-loop-less Inv-loop μ-loop
 loop-less c = search needs
@@ -43,7 +43,7 @@ enter-all-spec =
     loop-holds
     sub-k
     item-requires
-    enter-requires
+    tell-requires
     loop-less
     loop-again
     same-length

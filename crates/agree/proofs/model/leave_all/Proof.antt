@@ -17,8 +17,8 @@ loop-holds c = search needs
 item-requires : tie.Need-item-requires Inv-loop μ-loop
 item-requires c κs = search needs
 
-leave-requires : tie.Need-leave-requires Inv-loop μ-loop
-leave-requires c κs = search needs
+tell-requires : tie.Need-tell-requires Inv-loop μ-loop
+tell-requires c κs = search needs
 
 add-k : tie.Need-add-k Inv-loop μ-loop
 add-k c = search needs
@@ -43,7 +43,7 @@ leave-all-spec =
     μ-loop
     loop-holds
     item-requires
-    leave-requires
+    tell-requires
     add-k
     loop-less
     loop-again

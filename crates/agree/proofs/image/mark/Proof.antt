@@ -1,26 +1,31 @@
-use mathlib.Core.Path.{_≡_}
+use Prim.Native.Nat.{_≤_}
 use borrow.Author.Needs.{needs}
-use lib.ListN.{length}
-use Rattle.agree.proofs.image.put_path.Statement.{statement}
-use Rattle.agree.proofs.image.put_path.Tie as tie
+use Rattle.agree.proofs.image.mark.Statement.{statement}
+use Rattle.agree.proofs.image.mark.Tie as tie
 
 abbrev Inv-loop : tie.InvT-loop
-Inv-loop m w₀ n₀ w n = length w ≡ length w₀
+Inv-loop m₀ newest n₀ m n = 0 ≤ n
 
 abbrev μ-loop : tie.MeasureT-loop
-μ-loop m w₀ n₀ w n = n
+μ-loop m₀ newest n₀ m n = n
+
+of-requires : tie.Need-of-requires Inv-loop μ-loop
+of-requires c κs = search needs
+
+plus-requires : tie.Need-plus-requires Inv-loop μ-loop
+plus-requires c κs = search needs
 
 head-requires : tie.Need-head-requires Inv-loop μ-loop
 head-requires c κs = search needs
 
+put-requires : tie.Need-put-requires Inv-loop μ-loop
+put-requires c κs = search needs
+
 loop-holds : tie.Need-loop-holds Inv-loop μ-loop
 loop-holds c = search needs
 
-above-requires : tie.Need-above-requires Inv-loop μ-loop
-above-requires c κs = search needs
-
-put-node-requires : tie.Need-put-node-requires Inv-loop μ-loop
-put-node-requires c κs = search needs
+put-requires-2 : tie.Need-put-requires-2 Inv-loop μ-loop
+put-requires-2 c κs = search needs
 
 up-requires : tie.Need-up-requires Inv-loop μ-loop
 up-requires c κs = search needs
@@ -31,24 +36,22 @@ loop-less c = search needs
 loop-again : tie.Need-loop-again Inv-loop μ-loop
 loop-again c = search needs
 
-same-length : tie.Need-same-length Inv-loop μ-loop
-same-length c = search needs
-
 returns : tie.Need-returns Inv-loop μ-loop
 returns c = search needs
 
-pub put-path-spec : {M : Type 1} → statement M
-put-path-spec =
+pub mark-spec : {M : Type 1} → statement M
+mark-spec =
     tie.close
     (tie.spec
     Inv-loop
     μ-loop
+    of-requires
+    plus-requires
     head-requires
+    put-requires
     loop-holds
-    above-requires
-    put-node-requires
+    put-requires-2
     up-requires
     loop-less
     loop-again
-    same-length
     returns)

@@ -1,28 +1,25 @@
 use Prim.Native.Nat.{_≤_, _-_}
 use borrow.Author.Needs.{needs}
-use Rattle.agree.proofs.buffer.differ_at.Statement.{statement}
-use Rattle.agree.proofs.buffer.differ_at.Tie as tie
+use Rattle.agree.proofs.parents.seek.Statement.{statement}
+use Rattle.agree.proofs.parents.seek.Tie as tie
 
 abbrev Inv-loop : tie.InvT-loop
-Inv-loop a b end i₀ i = i ≤ end
+Inv-loop m mode from end n₀ n = 0 ≤ n
 
 abbrev μ-loop : tie.MeasureT-loop
-μ-loop a b end i₀ i = end - i
+μ-loop m mode from end n₀ n = end - n
 
 loop-holds : tie.Need-loop-holds Inv-loop μ-loop
 loop-holds c = search needs
 
-byte-requires : tie.Need-byte-requires Inv-loop μ-loop
-byte-requires c κs = search needs
-
-byte-requires-2 : tie.Need-byte-requires-2 Inv-loop μ-loop
-byte-requires-2 c κs = search needs
+mode-requires : tie.Need-mode-requires Inv-loop μ-loop
+mode-requires c κs = search needs
 
 returns : tie.Need-returns Inv-loop μ-loop
 returns c = search needs
 
-add-i : tie.Need-add-i Inv-loop μ-loop
-add-i c = search needs
+add-n : tie.Need-add-n Inv-loop μ-loop
+add-n c = search needs
 
 loop-less : tie.Need-loop-less Inv-loop μ-loop
 loop-less c = search needs
@@ -33,17 +30,16 @@ loop-again c = search needs
 returns-2 : tie.Need-returns-2 Inv-loop μ-loop
 returns-2 c = search needs
 
-pub differ-at-spec : {M : Type 1} → statement M
-differ-at-spec =
+pub seek-spec : {M : Type 1} → statement M
+seek-spec =
     tie.close
     (tie.spec
     Inv-loop
     μ-loop
     loop-holds
-    byte-requires
-    byte-requires-2
+    mode-requires
     returns
-    add-i
+    add-n
     loop-less
     loop-again
     returns-2)

@@ -1,21 +1,23 @@
-use mathlib.Core.Path.{_≡_}
 use Prim.Native.Nat.{_≤_, _-_}
 use borrow.Author.Needs.{needs}
 use lib.ListN.{length}
-use Rattle.agree.proofs.buffer.clear.Statement.{statement}
-use Rattle.agree.proofs.buffer.clear.Tie as tie
+use Rattle.agree.proofs.image.keep.Statement.{statement}
+use Rattle.agree.proofs.image.keep.Tie as tie
 
 abbrev Inv-loop : tie.InvT-loop
-Inv-loop b₀ end i₀ b i = (i ≤ end) × (length b ≡ length b₀)
+Inv-loop b m₀ i₀ m i = i ≤ length b
 
 abbrev μ-loop : tie.MeasureT-loop
-μ-loop b₀ end i₀ b i = end - i
+μ-loop b m₀ i₀ m i = length b - i
 
 loop-holds : tie.Need-loop-holds Inv-loop μ-loop
 loop-holds c = search needs
 
-poke-requires : tie.Need-poke-requires Inv-loop μ-loop
-poke-requires c κs = search needs
+byte-requires : tie.Need-byte-requires Inv-loop μ-loop
+byte-requires c κs = search needs
+
+put-requires : tie.Need-put-requires Inv-loop μ-loop
+put-requires c κs = search needs
 
 add-i : tie.Need-add-i Inv-loop μ-loop
 add-i c = search needs
@@ -26,22 +28,19 @@ loop-less c = search needs
 loop-again : tie.Need-loop-again Inv-loop μ-loop
 loop-again c = search needs
 
-same-length : tie.Need-same-length Inv-loop μ-loop
-same-length c = search needs
-
 returns : tie.Need-returns Inv-loop μ-loop
 returns c = search needs
 
-pub clear-spec : {M : Type 1} → statement M
-clear-spec =
+pub keep-spec : {M : Type 1} → statement M
+keep-spec =
     tie.close
     (tie.spec
     Inv-loop
     μ-loop
     loop-holds
-    poke-requires
+    byte-requires
+    put-requires
     add-i
     loop-less
     loop-again
-    same-length
     returns)

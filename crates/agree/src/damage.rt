@@ -1,0 +1,142 @@
+// A store that is damaged: every call refuses it and leaves every byte; or it is still sound, and means something else.
+use crate::ask;
+use crate::buffer::byte;
+use crate::buffer::copy;
+use crate::buffer::fill;
+use crate::buffer::holds;
+use crate::buffer::plus;
+use crate::buffer::poke;
+use crate::compare::BROKEN;
+use crate::compare::CHANGED;
+use crate::compare::REFUSAL;
+use crate::compare::SIZES;
+use crate::compare::SOME;
+use crate::compare::count;
+use crate::compare::values_agree;
+use crate::draw;
+use crate::draw::Op;
+use crate::image;
+use crate::model;
+use crate::model::LARGEST;
+use crate::model::MADE;
+use crate::model::SPACE;
+use crate::model::UNBOUND;
+use crate::model::VARS;
+use crate::say;
+use layout::Store;
+
+// ---- refused by all
+
+// Here first: it climbs from the focus alone, so that it answers where another call might run on and on.
+const CALLS: [u8; 8] = *b"hbwlsgkp";
+
+// Whether the call i refuses with 2.
+fn refuses(i: usize, g: usize, s: &mut [u8], t: &mut [u8]) -> bool {
+    let o = Op {
+        what: CALLS[i % 8],
+        one: draw::draw(g, 3),
+        two: draw::draw(draw::next(g), 3),
+        trace: 0,
+    };
+    ask::agree(ask::of_store(o, s, t), model::refused(2))
+}
+
+// Every call refuses, and no byte of the trace is another.
+fn each_refuses(g: usize, s: &mut [u8]) -> bool {
+    let mut t = [0u8; 2 * Store::EVENT];
+    let mut i = 0;
+    fill(&mut t);
+    while i < 8 {
+        if !refuses(i, g, s, &mut t) {
+            return false;
+        }
+        i += 1;
+    }
+    holds(&t, s, 0)
+}
+
+// Every call refuses, and no byte of store or trace is another.
+pub(crate) fn all_refuse(g: usize, s: &mut [u8]) -> bool {
+    let mut kept = [0u8; LARGEST];
+    copy(s, &mut kept);
+    if each_refuses(g, s) {
+        holds(s, &kept, s.len())
+    } else {
+        false
+    }
+}
+
+// ---- a byte changed
+
+// Adds n to a byte.
+fn strike(b: &mut [u8], at: usize, n: usize) {
+    poke(b, at, plus(byte(b, at), n));
+}
+
+// A damaged store is refused by all; then the damage is undone.
+fn broken(g: usize, at: usize, n: usize, s: &mut [u8], m: &mut [usize; SPACE]) -> usize {
+    count(m, BROKEN, 1);
+    if !all_refuse(g, s) {
+        return REFUSAL;
+    }
+    strike(s, at, 256 - n % 256);
+    if image::take(s, m) { 0 } else { SIZES }
+}
+
+// A store that is still sound: the model goes on with what it now means.
+fn changed(loud: bool, g: usize, s: &[u8], m: &mut [usize; SPACE]) -> usize {
+    count(m, CHANGED, 1);
+    image::keep(s, m);
+    values_agree(loud, g, SOME, s, m)
+}
+
+// One byte changed, of bytes that agree.
+pub(crate) fn damage(loud: bool, g: usize, s: &mut [u8], m: &mut [usize; SPACE]) -> usize {
+    let at = draw::hit(g, model::size(m));
+    let n = draw::blow(draw::later(g));
+    say::line(loud, say::DAMAGE, at, n, 0);
+    strike(s, at, n);
+    if image::take(s, m) {
+        changed(loud, g, s, m)
+    } else {
+        broken(g, at, n, s, m)
+    }
+}
+
+// ---- a cell that loses its value
+
+// A cell: where its state is, and where its bits.
+struct Spot {
+    state: usize,
+    bits: usize,
+}
+
+// The cell of a variable, or the one that a node stores.
+fn some_cell(g: usize, m: &[usize; SPACE]) -> Spot {
+    let v = model::head(m, VARS);
+    let n = draw::which(g, model::head(m, MADE));
+    let cell = model::place(Store::HEADER, Store::CELL, draw::which(g, v));
+    let node = image::node_at(v, n);
+    match n {
+        0 => Spot {
+            state: cell,
+            bits: plus(cell, 1),
+        },
+        _ => Spot {
+            state: plus(node, 1),
+            bits: plus(node, 8),
+        },
+    }
+}
+
+// One cell emptied, of bytes that agree. The store stays sound.
+pub(crate) fn hollow(loud: bool, g: usize, s: &mut [u8], m: &mut [usize; SPACE]) -> usize {
+    let c = some_cell(g, m);
+    say::line(loud, say::HOLLOW, c.state, 0, 0);
+    image::put_cell(s, c.state, c.bits, UNBOUND);
+    if image::take(s, m) {
+        values_agree(loud, g, SOME, s, m)
+    } else {
+        SIZES
+    }
+}

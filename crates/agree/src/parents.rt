@@ -1,0 +1,100 @@
+// A node that is its own parent: every call refuses, where the node is off the focus's path, and where it is on it.
+use crate::buffer::plus;
+use crate::buffer::spell16;
+use crate::compare::OWN_HIGH;
+use crate::compare::OWN_LOW;
+use crate::compare::REFUSAL;
+use crate::compare::count;
+use crate::damage::all_refuse;
+use crate::draw;
+use crate::image;
+use crate::model;
+use crate::model::MADE;
+use crate::model::SPACE;
+use crate::model::VARS;
+use crate::say;
+
+// Ways to choose the node: up to 255 off the path and then on it, above 255 off the path and then on it.
+pub(crate) const WAYS: usize = 4;
+
+// The first node from `from` on, before `end`, that is out (mode 0) or in (mode 1); 0 where there is none.
+fn seek(m: &[usize; SPACE], mode: usize, from: usize, end: usize) -> usize {
+    let mut n = from;
+    while n < end {
+        if image::mode(m, n) == mode {
+            return n;
+        }
+        n += 1;
+    }
+    0
+}
+
+// The same from a drawn node on; where there is none, from `low` on.
+fn some_node(g: usize, m: &[usize; SPACE], mode: usize, low: usize, end: usize) -> usize {
+    let n = seek(m, mode, draw::between(g, low, end), end);
+    match n {
+        0 => seek(m, mode, low, end),
+        _ => n,
+    }
+}
+
+fn smaller(a: usize, b: usize) -> usize {
+    if a < b { a } else { b }
+}
+
+// A node chosen in this way; 0 where there is none. One on the path has one off the path beside it, which was refused.
+fn chosen(g: usize, m: &[usize; SPACE], way: usize) -> usize {
+    let made = model::head(m, MADE);
+    let end = smaller(made, 256);
+    match way {
+        0 => some_node(g, m, 0, 1, end),
+        1 => beside(some_node(g, m, 0, 1, end), some_node(g, m, 1, 1, end)),
+        2 => some_node(g, m, 0, 256, made),
+        _ => beside(some_node(g, m, 0, 256, made), some_node(g, m, 1, 256, made)),
+    }
+}
+
+fn beside(off: usize, on: usize) -> usize {
+    match off {
+        0 => 0,
+        _ => on,
+    }
+}
+
+// Where the bytes have the parent of n.
+fn parent_at(m: &[usize; SPACE], n: usize) -> usize {
+    plus(image::node_at(model::head(m, VARS), n), 2)
+}
+
+// Where nodes up to 255 and those above are counted.
+fn counted_at(n: usize) -> usize {
+    if n < 256 { OWN_LOW } else { OWN_HIGH }
+}
+
+// The node n is its own parent: every call refuses. Then it has its parent again.
+fn refused(g: usize, n: usize, s: &mut [u8], m: &mut [usize; SPACE]) -> usize {
+    let at = parent_at(m, n);
+    spell16(s, at, n);
+    if !all_refuse(g, s) {
+        return REFUSAL;
+    }
+    spell16(s, at, model::up(m, n));
+    count(m, counted_at(n), 1);
+    0
+}
+
+// A node chosen in this way is its own parent. What is in was marked.
+pub(crate) fn own_parent(
+    loud: bool,
+    g: usize,
+    way: usize,
+    s: &mut [u8],
+    m: &mut [usize; SPACE],
+) -> usize {
+    let n = chosen(g, m, way);
+    if n == 0 {
+        return 0;
+    }
+    say::line(loud, say::PARENT, n, 0, 0);
+    refused(g, n, s, m)
+}
