@@ -15,6 +15,7 @@ use Rattle.rules.specs.Far.{far}
 use Rattle.rules.specs.Moves.{moves-tree, Event}
 use Rattle.rules.specs.Refusals as refusals
 use Rattle.rules.specs.Refusals.{damaged, first}
+use Rattle.rules.specs.World.{World, alone}
 use Rattle.rules.specs.Act.{Call, Size, shown, backTo, rows, eventsOf, codeOf, outOf, movesOf, byOf, answerOf, changed, Outcome, outcome, act, refused, valueIn}
 use Rattle.rules.specs.Effects.{SameDeep, Effect, act-effect, effect-determined}
 use Rattle.rules.specs.Demands.{switched-count, switched-events}
@@ -31,27 +32,27 @@ use Rattle.promises.specs.Answers.{Numbers, seen}
 use Rattle.promises.specs.Tables as tables
 use Rattle.promises.specs.Promises.{meaning, at, byAt, roomFor, Shows, parentAt, SwitchDone}
 use Rattle.promises.specs.Calls.{table, Done, Called, Code, is-done, is-refused, code-of, table-rises, sound-first, done-leaves}
-use Rattle.demands.specs.Tests.{sizeAt, refusedAs, first-says, next-made, seen-numbered, table-says}
+use Rattle.demands.specs.Tests.{sizeAt, world, refusedAs, first-says, next-made, seen-numbered, table-says}
 use Rattle.demands.specs.Plain.{deep-one, plain-meaning, plain-changed, ranks-changed}
 
 -- what `act` does to the meaning of s, with room for as many events as t has
-unfoldable pub acted : Call → List ℕ → List ℕ → Outcome Deep
-acted c s t = act (sizeAt s) (roomFor t) c (meaning s)
+unfoldable pub acted : Call → List ℕ → List ℕ → Outcome (World Deep)
+acted c s t = act (sizeAt s) (roomFor t) c (world s)
 
 -- document 01's numbers for it
-unfoldable pub numbersOf : Outcome Deep → Numbers
+unfoldable pub numbersOf : Outcome (World Deep) → Numbers
 numbersOf r = record { code = codeOf (r .answer); out = outOf (r .answer); moves = movesOf (r .answer); events = length (r .events); by = byOf (r .answer) }
 
 pub record AsAct (c : Call) (s t s′ t′ : List ℕ) (n : Numbers) : Type 0 where
   pub answer : n ≡ numbersOf (acted c s t)
   pub events : t′ ≡ told (acted c s t .events) t
-  pub meaning : meaning s′ ≡ acted c s t .after
+  pub meaning : world s′ ≡ acted c s t .after
   pub sound : Sound s′
   pub kept : Kept s s′
 
 -- ---- what a done call changes is the rules' effect of it
 module _ (s t s′ t′ : List ℕ) (n : Numbers) (ok : Sound s) where
-  pub done-effect : (c : Call) → Done c s t s′ t′ n → Effect (sizeAt s) c (meaning s) (meaning s′)
+  pub done-effect : (c : Call) → Done c s t s′ t′ n → Effect (sizeAt s) c (world s) (meaning s′)
   unfolding meaning home at shown backTo parentAt view viewF fieldsOf
   done-effect (Call.bind x v) (d, e) =
       rw (next-made s ok) (d .new, ap (λ (a : ℕ). at s′ a x) (d .new .focus) ∙ d .own, λ y h. ap (λ (a : ℕ). at s′ a y) (d .new .focus) ∙ d .rest y h)
@@ -69,18 +70,18 @@ unfolding told eventsB
 told-none t = refl
 
 -- what `act` gives to a call that k refuses, and to one that nothing refuses
-abbrev refusedBy : ℕ → List ℕ → Outcome Deep
-refusedBy k s = record { answer = refused k; events = []; after = meaning s }
+abbrev refusedBy : ℕ → List ℕ → Outcome (World Deep)
+refusedBy k s = record { answer = refused k; events = []; after = world s }
 
-abbrev unrefused : Call → List ℕ → Outcome Deep
-unrefused c s = record { answer = answerOf (sizeAt s) c (shown (meaning s)); events = eventsOf c (shown (meaning s)); after = changed (sizeAt s) c (meaning s) }
+abbrev unrefused : Call → List ℕ → Outcome (World Deep)
+unrefused c s = record { answer = answerOf (sizeAt s) c (shown (world s)); events = eventsOf c (shown (world s)); after = alone (changed (sizeAt s) c (world s)) }
 
 module _ (c : Call) (s t : List ℕ) where
-  acted-refused : (k : ℕ) → first (rows (sizeAt s) (roomFor t) c (shown (meaning s))) ≡ some k → acted c s t ≡ refusedBy k s
+  acted-refused : (k : ℕ) → first (rows (sizeAt s) (roomFor t) c (shown (world s))) ≡ some k → acted c s t ≡ refusedBy k s
   unfolding acted act outcome
   acted-refused k e = rw e
 
-  acted-done : first (rows (sizeAt s) (roomFor t) c (shown (meaning s))) ≡ none → acted c s t ≡ unrefused c s
+  acted-done : first (rows (sizeAt s) (roomFor t) c (shown (world s))) ≡ none → acted c s t ≡ unrefused c s
   unfolding acted act outcome
   acted-done e = rw e
 
@@ -116,7 +117,7 @@ module _ (s t s′ t′ : List ℕ) (n : Numbers) (ok : Sound s) where
   done-numbers Call.back d = switch-numbers (parentAt s) d
   done-numbers (Call.peek a x) (d, e, f) = value-numbers a x d
 
-  done-trace : (c : Call) → Done c s t s′ t′ n → t′ ≡ told (eventsOf c (shown (meaning s))) t
+  done-trace : (c : Call) → Done c s t s′ t′ n → t′ ≡ told (eventsOf c (shown (world s))) t
   unfolding eventsOf shown backTo meaning home parentAt view viewF fieldsOf
   done-trace (Call.bind x v) (d, e) = e ∙ sym (told-none t)
   done-trace (Call.wind p q) d = d .trace
@@ -128,25 +129,25 @@ module _ (s t s′ t′ : List ℕ) (n : Numbers) (ok : Sound s) where
   done-trace (Call.peek a x) (d, e, f) = f ∙ sym (told-none t)
 
   -- the meaning
-  done-meaning : (c : Call) → first (rows (sizeAt s) (roomFor t) c (shown (meaning s))) ≡ none → Done c s t s′ t′ n → meaning s′ ≡ changed (sizeAt s) c (meaning s)
+  done-meaning : (c : Call) → first (rows (sizeAt s) (roomFor t) c (shown (world s))) ≡ none → Done c s t s′ t′ n → meaning s′ ≡ changed (sizeAt s) c (world s)
   unfolding meaning home acted
   done-meaning c none-applies d =
       let z : Size = sizeAt s in
       let w = sound-view s ok in
-      let acts : Effect z c (meaning s) (changed z c (meaning s)) =
-      subst (λ (o : Outcome Deep). Effect z c (meaning s) (o .after)) (acted-done c s t none-applies) (act-effect z (meaning s) (w .proper) (w .focus-made) (seen-numbered s ok) (roomFor t) c none-applies) in
-      let same : SameDeep (meaning s′) (changed z c (meaning s)) =
-      effect-determined z c (meaning s) (meaning s′) (changed z c (meaning s)) (done-effect s t s′ t′ n ok c d) acts in
+      let acts : Effect z c (world s) (changed z c (world s)) =
+      subst (λ (o : Outcome (World Deep)). Effect z c (world s) (o .after .store)) (acted-done c s t none-applies) (act-effect z (world s) (w .proper) (w .focus-made) (seen-numbered s ok) (roomFor t) c none-applies) in
+      let same : SameDeep (meaning s′) (changed z c (world s)) =
+      effect-determined z c (world s) (meaning s′) (changed z c (world s)) (done-effect s t s′ t′ n ok c d) acts in
       let ok′ : Sound s′ = done-leaves c s t s′ t′ n ok d .0 in
-      deep-one s′ ok′ (changed z c (meaning s)) same (ranks-changed z (meaning s) (plain-meaning s ok) c (seen-numbered s ok .ranks))
+      deep-one s′ ok′ (changed z c (world s)) same (ranks-changed z (meaning s) (plain-meaning s ok) c (seen-numbered s ok .ranks))
       (plain-meaning s′ ok′) (plain-changed z (meaning s) (plain-meaning s ok) c)
 
 pub as-act : (c : Call) (s t s′ t′ : List ℕ) (n : Numbers) → Sound s → Called c s t s′ t′ n → AsAct c s t s′ t′ n
 unfolding numbersOf
 as-act c s t s′ t′ n ok p = go (code-of n)
   where
-    low : first (rows (sizeAt s) (roomFor t) c (shown (meaning s))) ≡ refusedAs (n .code)
-    low = first-says damaged (table c s t) (rows (sizeAt s) (roomFor t) c (shown (meaning s))) (table-rises c s t) (table-says s ok t c) (n .code) (sound-first p ok)
+    low : first (rows (sizeAt s) (roomFor t) c (shown (world s))) ≡ refusedAs (n .code)
+    low = first-says damaged (table c s t) (rows (sizeAt s) (roomFor t) c (shown (world s))) (table-rises c s t) (table-says s ok t c) (n .code) (sound-first p ok)
 
     is-some : (k : ℕ) → 1 ≤ k → refusedAs k ≡ some k
     is-some zero h = absurd (omega arith)
@@ -158,8 +159,8 @@ as-act c s t s′ t′ n ok p = go (code-of n)
         let r : acted c s t ≡ refusedBy (n .code) s = acted-refused c s t (n .code) (low ∙ is-some (n .code) h) in
         record {
           answer = e ∙ ap numbersOf (sym r);
-          events = kept ∙ sym (told-none t) ∙ ap (λ (o : Outcome Deep). told (o .events) t) (sym r);
-          meaning = ap meaning same ∙ ap (λ (o : Outcome Deep). o .after) (sym r);
+          events = kept ∙ sym (told-none t) ∙ ap (λ (o : Outcome (World Deep)). told (o .events) t) (sym r);
+          meaning = ap world same ∙ ap (λ (o : Outcome (World Deep)). o .after) (sym r);
           sound = rw same ok;
           kept = rw same (kept-self s);
         }
@@ -170,8 +171,8 @@ as-act c s t s′ t′ n ok p = go (code-of n)
         let (ok′, kept) = done-leaves c s t s′ t′ n ok d in
         record {
           answer = done-numbers s t s′ t′ n ok c d ∙ ap numbersOf (sym r);
-          events = done-trace s t s′ t′ n ok c d ∙ ap (λ (o : Outcome Deep). told (o .events) t) (sym r);
-          meaning = done-meaning s t s′ t′ n ok c none-applies d ∙ ap (λ (o : Outcome Deep). o .after) (sym r);
+          events = done-trace s t s′ t′ n ok c d ∙ ap (λ (o : Outcome (World Deep)). told (o .events) t) (sym r);
+          meaning = ap alone (done-meaning s t s′ t′ n ok c none-applies d) ∙ ap (λ (o : Outcome (World Deep)). o .after) (sym r);
           sound = ok′;
           kept = kept;
         }

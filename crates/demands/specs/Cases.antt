@@ -18,6 +18,7 @@ use Rattle.rules.specs.Far.{far}
 use Rattle.rules.specs.Moves.{Event, route}
 use Rattle.rules.specs.Calls.{openDeep, deciderAt, decidedBy, valueAt}
 use Rattle.rules.specs.Refusals.{first, setup, damaged, noVariable, noEnvironment, noValue, full, traceRoom, atTop}
+use Rattle.rules.specs.World.{alone}
 use Rattle.rules.specs.Act.{Call, bind, wind, look, set, here, goto, back, peek, isMade, nextNumber, isFull, shown, backTo, eventsOf, rows, answerOf, changed, outcome, act, run}
 use Rattle.layout.specs.Limits.{maxVars, maxNodes, bareSize, sizeOf}
 use Rattle.layout.specs.Bytes.{part, u16}
@@ -179,7 +180,7 @@ lent-short tops s s′ n o c t s″ t″ m p =
 
 -- ---- runs
 gives : (v k events : ℕ) (tops : List ℕ) (cs : List Call) (said : List Said) → 1 ≤ v → v ≤ maxVars → 1 ≤ k → k ≤ maxNodes → Tops v tops
-    → map saidBy (run (record { vars = v; nodes = k }) events cs (openDeep (λ m. m) (topCells v tops))) ≡ said → Gives v k events tops cs said
+    → map saidBy (run (record { vars = v; nodes = k }) events cs (alone (openDeep (λ m. m) (topCells v tops)))) ≡ said → Gives v k events tops cs said
 gives v k events tops cs said a b c d t e s s′ n rs long p r =
     let o : Opened v k tops s s′ n = opens v k tops s s′ n p (openable a b c d t long) in
     (o .answer, opened-session v k events tops s s′ n cs rs o r ∙ e)
@@ -211,11 +212,11 @@ tops-none = record { long = refl; proper = proper }
 
 -- V and N of the runs are in range
 one-var : (events : ℕ) (tops : List ℕ) (cs : List Call) (said : List Said) → Tops 1 tops
-    → map saidBy (run (record { vars = 1; nodes = 4 }) events cs (openDeep (λ m. m) (topCells 1 tops))) ≡ said → Gives 1 4 events tops cs said
+    → map saidBy (run (record { vars = 1; nodes = 4 }) events cs (alone (openDeep (λ m. m) (topCells 1 tops)))) ≡ said → Gives 1 4 events tops cs said
 one-var events tops cs said t e = gives 1 4 events tops cs said (omega arith) (omega arith) (omega arith) (omega arith) t e
 
 two-vars : (cs : List Call) (said : List Said)
-    → map saidBy (run (record { vars = 2; nodes = 4 }) 0 cs (openDeep (λ m. m) (topCells 2 (one ++ one)))) ≡ said → Gives 2 4 0 (one ++ one) cs said
+    → map saidBy (run (record { vars = 2; nodes = 4 }) 0 cs (alone (openDeep (λ m. m) (topCells 2 (one ++ one))))) ≡ said → Gives 2 4 0 (one ++ one) cs said
 two-vars cs said e = gives 2 4 0 (one ++ one) cs said (omega arith) (omega arith) (omega arith) (omega arith) tops-two e
 
 pub cases : All table

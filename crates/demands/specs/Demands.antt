@@ -39,7 +39,7 @@ use Rattle.promises.specs.Answers.{Numbers, refusal, seen}
 use Rattle.promises.specs.Tables.{Row, row, First, Applies, Lowest, Rising, first-exact, first-lowest, rising-above}
 use Rattle.promises.specs.Promises.{meaning, at, byAt, roomFor, Answers, Shows, damagedRow, Openable, Opened, OpenPromise, Told, SwitchDone, parentAt, GotoPromise, BackPromise, LookPromise, PeekPromise}
 use Rattle.promises.specs.Calls.{Promised, table, Done, Called, called, done-sound, Code, is-done, is-refused, code-of, opens, table-rises, sound-first}
-use Rattle.demands.specs.Tests.{sizeAt}
+use Rattle.demands.specs.Tests.{sizeAt, world}
 use Rattle.demands.specs.AsAct.{AsAct, as-act, done-effect, told-none}
 use Rattle.demands.specs.NeverRead.{opened-value}
 use Rattle.demands.specs.Held.{Held, Way, switch-held}
@@ -104,7 +104,7 @@ pub record ByTheRule (c : Call) (s t s′ t′ : List ℕ) (n : Numbers) : Type 
   -- what a done call answers, and what it changes: of every environment the value of every variable, before and after
   -- (a switch: none)
   pub replies : n .code ≡ 0 → Replies c s s′ n
-  pub changes : n .code ≡ 0 → Effect (sizeAt s) c (meaning s) (meaning s′)
+  pub changes : n .code ≡ 0 → Effect (sizeAt s) c (world s) (meaning s′)
   -- all of it, refused or done: the numbers, the events and the meaning are `act`'s
   pub acts : AsAct c s t s′ t′ n
 

@@ -17,6 +17,7 @@ use Rattle.rules.specs.Values.{unbound}
 use Rattle.rules.specs.Store.{Deep, home}
 use Rattle.rules.specs.Moves.{Event}
 use Rattle.rules.specs.Calls.{deciderAt, valueAt, look-right, openWhat}
+use Rattle.rules.specs.World.{World, alone}
 use Rattle.rules.specs.Act.{Call, Outcome, act}
 use Rattle.rules.specs.Effects.{SameDeep}
 use Rattle.layout.specs.Limits.{eventSize, sizeOf}
@@ -47,7 +48,7 @@ damaged-only c s t s′ t′ n bad p = first-one (damagedRow s ∷ table c s t) 
 module _ (c : Call) (s u t w : List ℕ) (agree : AgreeTo s u) (rooms : roomFor t ≡ roomFor w) where
   acted-alike : acted c s t ≡ acted c u w
   unfolding acted sizeAt meaning
-  acted-alike = λ i. act (record { vars = agree-vars s u agree i; nodes = agree-room s u agree i }) (rooms i) c (home (agree-view s u agree i))
+  acted-alike = λ i. act (record { vars = agree-vars s u agree i; nodes = agree-room s u agree i }) (rooms i) c (alone (home (agree-view s u agree i)))
 
   -- both are refused alike, or both are `act`'s
   pub data Fate (s′ u′ t′ w′ : List ℕ) (n m : Numbers) : Type 0 where
@@ -108,7 +109,7 @@ never-read c s u t w s′ u′ t′ w′ n m agree rooms b b′ p q = go (fate c
         (e, rw (f, g) agree, rw none-told refl)
     go (both-acted ok x y) =
         let same : acted c s t ≡ acted c u w = acted-alike c s u t w agree rooms in
-        let means : meaning s′ ≡ meaning u′ = x .meaning ∙ ap (λ (o : Outcome Deep). o .after) same ∙ sym (y .meaning) in
+        let means : meaning s′ ≡ meaning u′ = ap (λ (v : World Deep). v .store) (x .meaning ∙ ap (λ (o : Outcome (World Deep)). o .after) same ∙ sym (y .meaning)) in
         let v : vars s′ ≡ vars u′ = x .kept .vars ∙ agree-vars s u agree ∙ sym (y .kept .vars) in
         let r : room s′ ≡ room u′ = x .kept .room ∙ agree-room s u agree ∙ sym (y .kept .room) in
         let bytes = same-meant s′ u′ (x .sound) (y .sound) b b′ v r (deep-same means) in

@@ -16,6 +16,7 @@ use Rattle.rules.specs.Store.{Deep, home}
 use Rattle.rules.specs.Calls.{deciderAt, valueAt}
 use Rattle.rules.specs.Meaning.{binds-is}
 use Rattle.rules.specs.Refusals as refusals
+use Rattle.rules.specs.World.{alone}
 use Rattle.rules.specs.Act.{Call, Size, nextNumber, changed}
 use Rattle.rules.specs.Effects.{SameDeep}
 use Rattle.layout.specs.Records.{focus}
@@ -93,7 +94,7 @@ new-rank {rank} m n r = ap (λ (f : ℕ → ℕ). f n) (upd-id rank m m (r m)) �
 
 -- no call stores anything but by a binding, and a new node ranks by its number
 module _ (z : Size) (d : Deep) (plain : Plain d) where
-  pub plain-changed : (c : Call) → Plain (changed z c d)
+  pub plain-changed : (c : Call) → Plain (changed z c (alone d))
   unfolding changed deciderAt
   plain-changed (Call.bind x v) n h = go (ℕ-discrete n (nextNumber z (d .tree)))
     where
@@ -122,7 +123,7 @@ module _ (z : Size) (d : Deep) (plain : Plain d) where
   plain-changed Call.back n h = plain n h
   plain-changed (Call.peek a x) n h = plain n h
 
-  pub ranks-changed : (c : Call) → ((n : ℕ) → d .tree .rank n ≡ n) → (n : ℕ) → changed z c d .tree .rank n ≡ n
+  pub ranks-changed : (c : Call) → ((n : ℕ) → d .tree .rank n ≡ n) → (n : ℕ) → changed z c (alone d) .tree .rank n ≡ n
   unfolding changed
   ranks-changed (Call.bind x v) r n = new-rank (nextNumber z (d .tree)) n r
   ranks-changed (Call.wind p q) r n = new-rank (nextNumber z (d .tree)) n r

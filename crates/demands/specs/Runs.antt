@@ -8,6 +8,7 @@ use lib.ListN.{length, take}
 use Rattle.rules.specs.Values.{Cell}
 use Rattle.rules.specs.Store.{Deep, home}
 use Rattle.rules.specs.Calls.{valueAt, openDeep, open-values, home-open}
+use Rattle.rules.specs.World.{World, alone}
 use Rattle.rules.specs.Act.{Call, codeOf, outOf, movesOf, byOf, Outcome, act, Line, run}
 use Rattle.rules.specs.Effects.{SameDeep}
 use Rattle.layout.specs.Limits.{eventSize}
@@ -20,7 +21,7 @@ use Rattle.layout.specs.Opening.{topCells}
 use Rattle.promises.specs.Answers.{Numbers}
 use Rattle.promises.specs.Promises.{meaning, at, roomFor, Opened}
 use Rattle.promises.specs.Calls.{Promised, called}
-use Rattle.demands.specs.Tests.{sizeAt}
+use Rattle.demands.specs.Tests.{sizeAt, world}
 use Rattle.demands.specs.Plain.{deep-one, plain-meaning}
 use Rattle.demands.specs.AsAct.{acted, numbersOf, AsAct, as-act}
 use Rattle.demands.specs.NeverRead.{told-take, opened-what, opened-up, opened-value}
@@ -43,19 +44,19 @@ saidBy l = record {
   events = eventsB (l .events);
 }
 
-pub session-run : {events : ℕ} {s : List ℕ} {cs : List Call} {rs : List Said} → Sound s → Session events s cs rs → rs ≡ map saidBy (run (sizeAt s) events cs (meaning s))
+pub session-run : {events : ℕ} {s : List ℕ} {cs : List Call} {rs : List Said} → Sound s → Session events s cs rs → rs ≡ map saidBy (run (sizeAt s) events cs (world s))
 unfolding run saidBy acted numbersOf sizeAt
 session-run ok over = refl
 session-run {events} {s} ok (next {c = c} {cs = cs} {rs = rs} t s′ t′ n e p r) =
     let a : AsAct c s t s′ t′ n = as-act c s t s′ t′ n ok (called c s t s′ t′ n p) in
-    let now : Outcome Deep = act (sizeAt s) events c (meaning s) in
-    let same : acted c s t ≡ now = ap (λ (k : ℕ). act (sizeAt s) k c (meaning s)) e in
+    let now : Outcome (World Deep) = act (sizeAt s) events c (world s) in
+    let same : acted c s t ≡ now = ap (λ (k : ℕ). act (sizeAt s) k c (world s)) e in
     let numbers : n ≡ numbersOf now = a .answer ∙ ap numbersOf same in
     let count : n .events ≡ length (acted c s t .events) = ap (λ (k : Numbers). k .events) (a .answer) in
     let told-as : take (eventSize * n .events) t′ ≡ eventsB (now .events) =
     ap (λ (k : ℕ). take (eventSize * k) t′) count ∙ ap (take (eventSize * length (acted c s t .events))) (a .events)
-    ∙ told-take (acted c s t .events) t ∙ ap (λ (o : Outcome Deep). eventsB (o .events)) same in
-    let left : meaning s′ ≡ now .after = a .meaning ∙ ap (λ (o : Outcome Deep). o .after) same in
+    ∙ told-take (acted c s t .events) t ∙ ap (λ (o : Outcome (World Deep)). eventsB (o .events)) same in
+    let left : world s′ ≡ now .after = a .meaning ∙ ap (λ (o : Outcome (World Deep)). o .after) same in
     let size : sizeAt s′ ≡ sizeAt s = λ i. record { vars = a .kept .vars i; nodes = a .kept .room i } in
     let rest : rs ≡ map saidBy (run (sizeAt s) events cs (now .after)) = session-run (a .sound) r ∙ (λ i. map saidBy (run (size i) events cs (left i))) in
     λ i. record { numbers = numbers i; events = told-as i } ∷ rest i
@@ -78,7 +79,7 @@ opened-means v k tops s s′ n o = deep-one s′ (o .sound) (openDeep (λ m. m) 
 
 -- so the numbers and the events of a run on it are the rules'
 pub opened-session : (v k events : ℕ) (tops s s′ : List ℕ) (n : Numbers) (cs : List Call) (rs : List Said) → Opened v k tops s s′ n → Session events s′ cs rs
-    → rs ≡ map saidBy (run (record { vars = v; nodes = k }) events cs (openDeep (λ m. m) (topCells v tops)))
+    → rs ≡ map saidBy (run (record { vars = v; nodes = k }) events cs (alone (openDeep (λ m. m) (topCells v tops))))
 unfolding sizeAt
 opened-session v k events tops s s′ n cs rs o r =
-    session-run (o .sound) r ∙ (λ i. map saidBy (run (record { vars = o .vars i; nodes = o .nodes i }) events cs (opened-means v k tops s s′ n o i)))
+    session-run (o .sound) r ∙ (λ i. map saidBy (run (record { vars = o .vars i; nodes = o .nodes i }) events cs (alone (opened-means v k tops s s′ n o i))))

@@ -14,9 +14,10 @@ use Rattle.rules.specs.Basic.{clash, some≢none}
 use Rattle.rules.specs.Tree.{blank, wind, Tree}
 use Rattle.rules.specs.Values.{Cell, unbound, value}
 use Rattle.rules.specs.Store as store
-use Rattle.rules.specs.Store.{home}
+use Rattle.rules.specs.Store.{Deep, home}
 use Rattle.rules.specs.Refusals as refusals
 use Rattle.rules.specs.Refusals.{first}
+use Rattle.rules.specs.World.{World, alone}
 use Rattle.rules.specs.Act.{Call, Size, isMade, nextNumber, isFull, shown, backTo, isUnbound, isNone, rows, eventsOf}
 use Rattle.rules.specs.Agree.{Numbered, numbered, next-is, is-made, made-is}
 use Rattle.layout.specs.Records.{vars, room, made, focus}
@@ -38,6 +39,10 @@ use Rattle.promises.specs.Calls.{table}
 -- the V and N of a store
 unfoldable pub sizeAt : List ℕ → Size
 sizeAt s = record { vars = vars s; nodes = room s }
+
+-- the world of a store: what it means
+abbrev pub world : List ℕ → World Deep
+world s = alone (meaning s)
 
 -- ---- a promise's table and a table of tests
 pub record RowSays (r : tables.Row) (q : refusals.Row) : Type 0 where
@@ -131,7 +136,7 @@ module _ (s : List ℕ) (ok : Sound s) where
       go none e = sound-view s ok .proper .one-top (focus s) (made-seen s ok (focus s) (focus-made s ok)) e
       go (some p) e = λ z. some≢none (rw z at e) (top-up s ok)
 
-  pub table-says : (t : List ℕ) (c : Call) → TableSays (table c s t) (rows (sizeAt s) (roomFor t) c (shown (meaning s)))
+  pub table-says : (t : List ℕ) (c : Call) → TableSays (table c s t) (rows (sizeAt s) (roomFor t) c (shown (world s)))
   unfolding rows shown meaning home at sizeAt eventsOf parentAt backTo view viewF fieldsOf
   table-says t (Call.bind x v) = (row (says-le (vars s) x), (row says-full, tt))
   table-says t (Call.wind p q) = (row says-full, (row (says-lt (roomFor t) 1), tt))
