@@ -1,5 +1,6 @@
 -- Document 01's kinds: 0 blank, 1 top, 2 binding out, 3 binding in, 4 wind out, 5 wind in. What is in or out, a binding
--- or a wind is read from the kind here, and nowhere else in definitions and laws. Assumes nothing.
+-- or a wind is read from the kind here; of the laws, those on what a node binds and tells (Reading, RouteLaws) part the kinds by
+-- their ranges too. Assumes nothing.
 use mathlib.Core.Path.{_≡_, refl, sym, ap, _∙_}
 use mathlib.Core.Logic.{_⊎_, inl, inr}
 use mathlib.Core.Bool.{Bool, true, false, cond, _||_}
