@@ -61,27 +61,26 @@ pub(crate) fn told(r: Answer) -> Says {
     }
 }
 
-pub(crate) fn store_peek(s: &[u8], a: usize, x: usize) -> Says {
-    told(store::peek(s, cut32(a), cut32(x)))
-}
-
-pub(crate) fn store_here(s: &[u8]) -> Says {
-    told(store::here(s))
-}
-
 pub(crate) fn store_open(v: usize, n: usize, tops: &[u8], s: &mut [u8]) -> Says {
     told(store::open(cut32(v), cut32(n), tops, s))
 }
 
-// The calls that change nothing.
-fn read(o: Op, s: &[u8]) -> Answer {
-    let what = o.what;
-    let x = cut32(o.one);
+// The calls that change nothing: look, here and peek.
+fn read(what: u8, one: usize, two: usize, s: &[u8]) -> Answer {
+    let x = cut32(one);
     match what {
         b'l' => store::look(s, x),
         b'h' => store::here(s),
-        _ => store::peek(s, x, cut32(o.two)),
+        _ => store::peek(s, x, cut32(two)),
     }
+}
+
+pub(crate) fn store_peek(s: &[u8], a: usize, x: usize) -> Says {
+    told(read(b'p', a, x, s))
+}
+
+pub(crate) fn store_here(s: &[u8]) -> Says {
+    told(read(b'h', 0, 0, s))
 }
 
 fn asked(o: Op, s: &mut [u8], t: &mut [u8]) -> Answer {
@@ -94,7 +93,7 @@ fn asked(o: Op, s: &mut [u8], t: &mut [u8]) -> Answer {
         b's' => store::set(s, x, v),
         b'g' => store::goto(s, t, x),
         b'k' => store::back(s, t),
-        _ => read(o, s),
+        _ => read(what, o.one, o.two, s),
     }
 }
 

@@ -1,11 +1,11 @@
 // A store that is damaged: every call refuses it and leaves every byte; or it is still sound, and means something else.
 use crate::ask;
-use crate::buffer::byte;
 use crate::buffer::copy;
 use crate::buffer::fill;
 use crate::buffer::holds;
+use crate::buffer::number16;
 use crate::buffer::plus;
-use crate::buffer::poke;
+use crate::buffer::spell16;
 use crate::compare::BROKEN;
 use crate::compare::CHANGED;
 use crate::compare::REFUSAL;
@@ -55,32 +55,30 @@ fn each_refuses(g: usize, s: &mut [u8]) -> bool {
     holds(&t, s, 0)
 }
 
-// Every call refuses, and no byte of store or trace is another.
-pub(crate) fn all_refuse(g: usize, s: &mut [u8]) -> bool {
+// Whether every call refuses, and no byte of store or trace is another. Then the number at `at` is the old one again.
+pub(crate) fn all_refuse(g: usize, at: usize, old: usize, s: &mut [u8]) -> bool {
     let mut kept = [0u8; LARGEST];
     copy(s, &mut kept);
-    if each_refuses(g, s) {
-        holds(s, &kept, s.len())
-    } else {
-        false
-    }
+    let refused = each_refuses(g, s);
+    let same = holds(s, &kept, s.len());
+    spell16(s, at, old);
+    refused && same
 }
 
 // ---- a byte changed
 
-// Adds n to a byte.
-fn strike(b: &mut [u8], at: usize, n: usize) {
-    poke(b, at, plus(byte(b, at), n));
+fn verdict(refused: bool, sound: bool) -> usize {
+    if !refused {
+        return REFUSAL;
+    }
+    if sound { 0 } else { SIZES }
 }
 
 // A damaged store is refused by all; then the damage is undone.
-fn broken(g: usize, at: usize, n: usize, s: &mut [u8], m: &mut [usize; SPACE]) -> usize {
+fn broken(g: usize, at: usize, old: usize, s: &mut [u8], m: &mut [usize; SPACE]) -> usize {
     count(m, BROKEN, 1);
-    if !all_refuse(g, s) {
-        return REFUSAL;
-    }
-    strike(s, at, 256 - n % 256);
-    if image::take(s, m) { 0 } else { SIZES }
+    let refused = all_refuse(g, at, old, s);
+    verdict(refused, image::take(s, m))
 }
 
 // A store that is still sound: the model goes on with what it now means.
@@ -90,16 +88,22 @@ fn changed(loud: bool, g: usize, s: &[u8], m: &mut [usize; SPACE]) -> usize {
     values_agree(loud, g, SOME, s, m)
 }
 
+// The number b with n added to its lower byte.
+fn struck(b: usize, n: usize) -> usize {
+    plus(b / 256 * 256, plus(b, n) % 256)
+}
+
 // One byte changed, of bytes that agree.
 pub(crate) fn damage(loud: bool, g: usize, s: &mut [u8], m: &mut [usize; SPACE]) -> usize {
     let at = draw::hit(g, model::size(m));
     let n = draw::blow(draw::later(g));
+    let old = number16(s, at);
     say::line(loud, say::DAMAGE, at, n, 0);
-    strike(s, at, n);
+    spell16(s, at, struck(old, n));
     if image::take(s, m) {
         changed(loud, g, s, m)
     } else {
-        broken(g, at, n, s, m)
+        broken(g, at, old, s, m)
     }
 }
 

@@ -188,13 +188,6 @@ fn near(kind: usize, g: usize, limit: usize) -> usize {
     draw(g, limit)
 }
 
-fn variable(kind: usize, g: usize, m: &[usize; SPACE]) -> usize {
-    if kind == SAME {
-        return 0;
-    }
-    near(kind, g, head(m, VARS))
-}
-
 // The bits of a value: any, one near 0, or one at the ends of the range.
 fn bits(g: usize) -> usize {
     let g2 = next(g);
@@ -219,16 +212,6 @@ fn environment(kind: usize, g: usize, m: &[usize; SPACE]) -> usize {
 fn events_to(m: &[usize; SPACE], a: usize) -> usize {
     let mut notes = [0u8; Store::EVENT * Store::NODES];
     way(m, a, Store::NODES, &mut notes).events
-}
-
-// How many events the operation tells if there is room.
-fn events(what: u8, a: usize, m: &[usize; SPACE]) -> usize {
-    match what {
-        b'w' => 1,
-        b'g' => events_to(m, a),
-        b'k' => events_to(m, up(m, head(m, FOCUS))),
-        _ => 0,
-    }
 }
 
 // The bytes of trace: room for exactly the events, for one fewer, or for a few more; and some bytes over.
@@ -258,7 +241,11 @@ fn thunk(g: usize) -> usize {
 fn numbers(kind: usize, g: usize, m: &[usize; SPACE], what: u8) -> Op {
     let g2 = next(g);
     let g3 = next(g2);
-    let x = variable(kind, g2, m);
+    let x = if kind == SAME {
+        0
+    } else {
+        near(kind, g2, head(m, VARS))
+    };
     let a = environment(kind, g3, m);
     match what {
         b'b' | b's' => made_op(what, x, bits(g3)),
@@ -282,7 +269,13 @@ fn made_op(what: u8, one: usize, two: usize) -> Op {
 pub(crate) fn operation(kind: usize, g: usize, m: &[usize; SPACE]) -> Op {
     let letter = what(kind, g, m);
     let mut o = numbers(kind, next(g), m, letter);
-    o.trace = trace(kind, later(g), events(letter, o.one, m));
+    let events = match letter {
+        b'w' => 1,
+        b'g' => events_to(m, o.one),
+        b'k' => events_to(m, up(m, head(m, FOCUS))),
+        _ => 0,
+    };
+    o.trace = trace(kind, later(g), events);
     o
 }
 
@@ -334,11 +327,14 @@ fn tops_len(g: usize, v: usize) -> usize {
     len
 }
 
-// An opening: V, N and the bytes of top cells.
+// An opening: V, N and the bytes of top cells; how these are drawn, and whether a byte of them may be another.
 pub(crate) struct Opening {
     pub vars: usize,
     pub nodes: usize,
     pub len: usize,
+    pub kind: usize,
+    pub state: usize,
+    pub again: bool,
 }
 
 // The generator's state two draws later.
@@ -346,23 +342,40 @@ pub(crate) fn later(g: usize) -> usize {
     next(next(g))
 }
 
-pub(crate) fn some_opening(g: usize) -> Opening {
-    let vars = count_near(g, Store::VARS);
+pub(crate) fn first_opening(p: Plan, g: usize) -> Opening {
     Opening {
-        vars,
-        nodes: count_near(later(g), Store::NODES),
-        len: tops_len(later(later(g)), vars % 300),
+        vars: p.vars,
+        nodes: p.nodes,
+        len: place(0, Store::BARE, p.vars),
+        kind: p.kind,
+        state: g,
+        again: false,
     }
 }
 
-// Top cells for another opening; now and then a byte of them is another.
-pub(crate) fn edge_tops(g: usize, v: usize, b: &mut [u8]) {
-    draw_tops(EDGES, g, v, b);
-    if once_in(next(g), 4) {
+pub(crate) fn some_opening(g: usize) -> Opening {
+    let vars = count_near(g, Store::VARS);
+    let state = later(later(g));
+    Opening {
+        vars,
+        nodes: count_near(later(g), Store::NODES),
+        len: tops_len(state, vars % 300),
+        kind: EDGES,
+        state,
+        again: true,
+    }
+}
+
+// The top cells of an opening; where it opens again, now and then a byte of them is another.
+pub(crate) fn tops(o: Opening, b: &mut [u8]) {
+    let v = o.vars % 258;
+    let g = next(o.state);
+    draw_tops(o.kind, o.state, v, b);
+    if o.again && once_in(g, 4) {
         poke(
             b,
-            draw(later(g), place(0, Store::BARE, v)),
-            draw(next(later(g)), 3),
+            draw(next(g), place(0, Store::BARE, v)),
+            draw(later(g), 3),
         );
     }
 }

@@ -30,7 +30,7 @@ use crate::model::head;
 use crate::model::of;
 use crate::model::place;
 use crate::model::put;
-use crate::model::put_head;
+use crate::model::put_heads;
 use crate::model::put_node;
 use crate::model::size;
 use crate::model::take_tops;
@@ -78,14 +78,6 @@ fn cell_byte(m: &[usize; SPACE], i: usize) -> usize {
     }
 }
 
-fn kind_byte(m: &[usize; SPACE], n: usize) -> usize {
-    match of(m, KIND, n) {
-        BINDING => plus(2, mode(m, n)),
-        WIND => plus(4, mode(m, n)),
-        _ => 1,
-    }
-}
-
 // What n stores: a binding that is out its own value, one that is in its variable's value at its parent.
 fn stored(m: &[usize; SPACE], n: usize) -> usize {
     if of(m, KIND, n) != BINDING {
@@ -97,21 +89,23 @@ fn stored(m: &[usize; SPACE], n: usize) -> usize {
     }
 }
 
-fn post(m: &[usize; SPACE], n: usize) -> usize {
-    match of(m, KIND, n) {
-        WIND => of(m, POST, n),
-        _ => 0,
+// The first byte of a node that is out.
+fn kind_byte(kind: usize) -> usize {
+    match kind {
+        BINDING => 2,
+        WIND => 4,
+        _ => 1,
     }
 }
 
 // The byte k of the node n.
 fn node_part(m: &[usize; SPACE], n: usize, k: usize) -> usize {
     match k {
-        0 => kind_byte(m, n),
+        0 => plus(kind_byte(of(m, KIND, n)), mode(m, n)),
         1 => state(stored(m, n)),
         2 | 3 => part(of(m, PARENT, n), k % 2),
         4 | 5 => part(of(m, GIVEN, n), k % 2),
-        6 | 7 => part(post(m, n), k % 2),
+        6 | 7 => part(of(m, POST, n), k % 2),
         _ => part(stored(m, n), k % 4),
     }
 }
@@ -174,10 +168,13 @@ pub(crate) fn put_cell(b: &mut [u8], at: usize, bits: usize, v: usize) {
 // ---- and back
 
 fn take_head(b: &[u8], m: &mut [usize; SPACE]) {
-    put_head(m, VARS, number16(b, 0));
-    put_head(m, ROOM, number16(b, 2));
-    put_head(m, MADE, number16(b, 4));
-    put_head(m, FOCUS, number16(b, 6));
+    put_heads(
+        m,
+        number16(b, 0),
+        number16(b, 2),
+        number16(b, 4),
+        number16(b, 6),
+    );
 }
 
 fn head_ok(m: &[usize; SPACE], len: usize) -> bool {
@@ -198,13 +195,18 @@ fn kind_of(k: usize) -> usize {
     }
 }
 
-// The node at `at`, as if it were out.
+// The node at `at`, as if it were out. A binding has no postlude.
 fn node_in(b: &[u8], at: usize) -> Node {
+    let kind = kind_of(byte(b, at));
+    let post = match kind {
+        WIND => number16(b, plus(at, 6)),
+        _ => 0,
+    };
     Node {
-        kind: kind_of(byte(b, at)),
+        kind,
         parent: number16(b, plus(at, 2)),
         given: number16(b, plus(at, 4)),
-        post: number16(b, plus(at, 6)),
+        post,
         own: cell(b, plus(at, 8), plus(at, 1)),
     }
 }

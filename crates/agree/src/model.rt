@@ -123,6 +123,13 @@ pub(crate) fn put_head(m: &mut [usize; SPACE], place: usize, v: usize) {
     put(m, HEAD, place, v);
 }
 
+pub(crate) fn put_heads(m: &mut [usize; SPACE], v: usize, n: usize, made: usize, focus: usize) {
+    put_head(m, VARS, v);
+    put_head(m, ROOM, n);
+    put_head(m, MADE, made);
+    put_head(m, FOCUS, focus);
+}
+
 // The parent, which has a smaller number.
 pub(crate) fn up(m: &[usize; SPACE], n: usize) -> usize
     ensures { λ r. ⌜ r ≤ n - 1 ⌝ }
@@ -255,49 +262,73 @@ fn tell(m: &[usize; SPACE], n: usize, way: usize, notes: &mut [u8], e: usize) ->
     plus(e, 1)
 }
 
-// Leaving the first n nodes of a path, from its beginning on.
-fn leave_all(m: &[usize; SPACE], p: &[usize; Store::NODES], n: usize, notes: &mut [u8]) -> usize {
+// How many nodes a switch leaves, and how many moves it makes.
+struct Route {
+    left: usize,
+    moves: usize,
+}
+
+// A node, and whether it is left (way 0) or entered (way 1).
+struct Move {
+    node: usize,
+    way: usize,
+}
+
+// The move number k of a switch that leaves the first nodes of p and enters the first of q, the outer ones first.
+fn move_at(p: &[usize; Store::NODES], q: &[usize; Store::NODES], w: Route, k: usize) -> Move {
+    if k < w.left {
+        return Move {
+            node: item(p, k),
+            way: 0,
+        };
+    }
+    Move {
+        node: item(q, less(less(w.moves, k), 1)),
+        way: 1,
+    }
+}
+
+// All events of a switch: how many.
+fn tell_all(
+    m: &[usize; SPACE],
+    p: &[usize; Store::NODES],
+    q: &[usize; Store::NODES],
+    w: Route,
+    notes: &mut [u8],
+) -> usize {
+    let end = w.moves;
     let mut e = 0;
     let mut k = 0;
-    while k < n {
-        e = tell(m, item(p, k), 0, notes, e);
+    while k < end {
+        let step = move_at(p, q, w, k);
+        e = tell(m, step.node, step.way, notes, e);
         k += 1;
     }
     e
 }
 
-// Entering the first n nodes of a path, the outer ones first, after e events.
-fn enter_all(
-    m: &[usize; SPACE],
-    p: &[usize; Store::NODES],
-    n: usize,
-    notes: &mut [u8],
-    told: usize,
-) -> usize {
-    let mut e = told;
-    let mut k = n;
-    while 0 < k {
-        k -= 1;
-        e = tell(m, item(p, k), 1, notes, e);
+// What two paths have not in common: all of one is left, all of the other is entered.
+fn apart(p: &[usize; Store::NODES], np: usize, q: &[usize; Store::NODES], nq: usize) -> Route {
+    let k = shared(p, np, q, nq);
+    let left = less(np, k);
+    Route {
+        left,
+        moves: plus(left, less(nq, k)),
     }
-    e
 }
 
-// The answer of a switch to a: every node of one path that the other has not is left or entered once.
+// The answer of a switch to a.
 pub(crate) fn way(m: &[usize; SPACE], a: usize, room: usize, notes: &mut [u8]) -> Says {
     let mut p = [0usize; Store::NODES];
     let mut q = [0usize; Store::NODES];
     let np = path(m, head(m, FOCUS), &mut p);
     let nq = path(m, a, &mut q);
-    let k = shared(&p, np, &q, nq);
-    let left = less(np, k);
-    let entered = less(nq, k);
-    let e = leave_all(m, &p, left, notes);
-    let events = enter_all(m, &q, entered, notes, e);
+    let w = apart(&p, np, &q, nq);
+    let events = tell_all(m, &p, &q, w, notes);
     if room < events {
         return refused(7);
     }
-    answered(0, a, plus(left, entered), events)
+    answered(0, a, w.moves, events)
 }
 
 // ---- bytes
@@ -390,10 +421,7 @@ pub(crate) fn open(m: &mut [usize; SPACE], v: usize, n: usize, tops: &[u8], len:
         return refused(1);
     }
     take_tops(m, v, tops, 0);
-    put_head(m, VARS, v);
-    put_head(m, ROOM, n);
-    put_head(m, MADE, 1);
-    put_head(m, FOCUS, 0);
+    put_heads(m, v, n, 1, 0);
     done(0)
 }
 

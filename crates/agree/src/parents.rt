@@ -38,27 +38,23 @@ fn some_node(g: usize, m: &[usize; SPACE], mode: usize, low: usize, end: usize) 
     }
 }
 
-fn smaller(a: usize, b: usize) -> usize {
-    if a < b { a } else { b }
+// A node of this mode from `low` on, before `end`; one that is in only where there is one that is out, which was refused.
+fn out_first(g: usize, m: &[usize; SPACE], mode: usize, low: usize, end: usize) -> usize {
+    let out = some_node(g, m, 0, low, end);
+    if out == 0 || mode == 0 {
+        return out;
+    }
+    some_node(g, m, 1, low, end)
 }
 
-// A node chosen in this way; 0 where there is none. One on the path has one off the path beside it, which was refused.
+// A node chosen in this way; 0 where there is none.
 fn chosen(g: usize, m: &[usize; SPACE], way: usize) -> usize {
     let made = model::head(m, MADE);
-    let end = smaller(made, 256);
-    match way {
-        0 => some_node(g, m, 0, 1, end),
-        1 => beside(some_node(g, m, 0, 1, end), some_node(g, m, 1, 1, end)),
-        2 => some_node(g, m, 0, 256, made),
-        _ => beside(some_node(g, m, 0, 256, made), some_node(g, m, 1, 256, made)),
+    if 1 < way {
+        return out_first(g, m, way % 2, 256, made);
     }
-}
-
-fn beside(off: usize, on: usize) -> usize {
-    match off {
-        0 => 0,
-        _ => on,
-    }
+    let end = if made < 256 { made } else { 256 };
+    out_first(g, m, way % 2, 1, end)
 }
 
 // Where the bytes have the parent of n.
@@ -71,19 +67,7 @@ fn counted_at(n: usize) -> usize {
     if n < 256 { OWN_LOW } else { OWN_HIGH }
 }
 
-// The node n is its own parent: every call refuses. Then it has its parent again.
-fn refused(g: usize, n: usize, s: &mut [u8], m: &mut [usize; SPACE]) -> usize {
-    let at = parent_at(m, n);
-    spell16(s, at, n);
-    if !all_refuse(g, s) {
-        return REFUSAL;
-    }
-    spell16(s, at, model::up(m, n));
-    count(m, counted_at(n), 1);
-    0
-}
-
-// A node chosen in this way is its own parent. What is in was marked.
+// A node chosen in this way is its own parent: every call refuses. What is in was marked.
 pub(crate) fn own_parent(
     loud: bool,
     g: usize,
@@ -92,9 +76,16 @@ pub(crate) fn own_parent(
     m: &mut [usize; SPACE],
 ) -> usize {
     let n = chosen(g, m, way);
+    let at = parent_at(m, n);
     if n == 0 {
         return 0;
     }
     say::line(loud, say::PARENT, n, 0, 0);
-    refused(g, n, s, m)
+    count(m, counted_at(n), 1);
+    spell16(s, at, n);
+    if all_refuse(g, at, model::up(m, n), s) {
+        0
+    } else {
+        REFUSAL
+    }
 }

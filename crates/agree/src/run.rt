@@ -3,7 +3,6 @@
 use crate::ask;
 use crate::buffer::fill;
 use crate::buffer::holds;
-use crate::buffer::less;
 use crate::buffer::plus;
 use crate::compare::MANY;
 use crate::compare::SEQUENCES;
@@ -63,41 +62,22 @@ fn operate(loud: bool, o: Op, s: &mut [u8], m: &mut [usize; SPACE]) -> usize {
 
 // ---- opening, and a store lent too short
 
-// Open with the first of these top cells. The bytes of s are what is lent.
-fn open(loud: bool, o: Opening, tops: &[u8], s: &mut [u8], m: &mut [usize; SPACE]) -> usize {
+// Most bytes of top cells that are drawn.
+const TOPS: usize = Store::BARE * Store::VARS + 64;
+
+// Open. The bytes of s are what is lent.
+fn open(loud: bool, o: Opening, s: &mut [u8], m: &mut [usize; SPACE]) -> usize {
+    let mut tops = [0u8; TOPS];
     let len = o.len;
     say::line(loud, say::OPEN, o.vars, o.nodes, len);
     image::keep(s, m);
-    if tops.len() < len {
+    draw::tops(o, &mut tops);
+    if TOPS < len {
         return SIZES;
     }
     let want = model::open(m, o.vars, o.nodes, &tops[0..len], s.len());
     let got = ask::store_open(o.vars, o.nodes, &tops[0..len], s);
     answers(loud, want, got, m)
-}
-
-// Most bytes of top cells that are drawn.
-const TOPS: usize = Store::BARE * Store::VARS + 64;
-
-// The store, whose bytes agree, is opened again, or open refuses.
-fn reopen(loud: bool, g: usize, s: &mut [u8], m: &mut [usize; SPACE]) -> usize {
-    let mut tops = [0u8; TOPS];
-    let o = draw::some_opening(g);
-    draw::edge_tops(draw::later(draw::later(g)), o.vars % 258, &mut tops);
-    open(loud, o, &tops, s, m)
-}
-
-// The first opening.
-fn begin(loud: bool, p: Plan, g: usize, s: &mut [u8], m: &mut [usize; SPACE]) -> usize {
-    let mut tops = [0u8; TOPS];
-    let o = Opening {
-        vars: p.vars,
-        nodes: p.nodes,
-        len: model::place(0, Store::BARE, p.vars),
-    };
-    fill(s);
-    draw::draw_tops(p.kind, g, p.vars, &mut tops);
-    open(loud, o, &tops, s, m)
 }
 
 // What here answers of the first `len` bytes; no answer where there are fewer.
@@ -132,7 +112,7 @@ fn step(loud: bool, kind: usize, g: usize, s: &mut [u8], m: &mut [usize; SPACE])
     match what {
         b'd' => damage::damage(loud, g, s, m),
         b'u' => damage::hollow(loud, g, s, m),
-        b'o' => reopen(loud, g, s, m),
+        b'o' => open(loud, draw::some_opening(g), s, m),
         b'c' => cut(loud, g, s, m),
         _ => operate(loud, o, s, m),
     }
@@ -140,63 +120,62 @@ fn step(loud: bool, kind: usize, g: usize, s: &mut [u8], m: &mut [usize; SPACE])
 
 // ---- a turn, in parts
 
-// Before a step that goes by the bytes, and at first, the bytes are compared; then comes the step; then the bytes are compared,
-// then the values, and then nodes are their own parents. After the last turn one more has no step.
+// Before a step that goes by the bytes, and at first, the Bytes are compared; then comes the Step; then the Bytes are compared,
+// then the Values, and then nodes are their own Parents. A row for a turn in a larger store, in a small one, for every sixteenth
+// in a larger one, and for the last, which has no step; then the same where the step goes by the bytes, or is the first.
 const PARTS: usize = 4 + parents::WAYS;
 
-// What a part does.
-const NOTHING: usize = 0;
-
-const BYTES: usize = 1;
-
-const STEP: usize = 2;
-
-const VALUES: usize = 3;
-
-const PARENTS: usize = 4;
+const ACTS: [u8; 8 * PARTS] = *b".s......\
+    .sbv....\
+    .sbvpppp\
+    ..bvpppp\
+    bsb.....\
+    bsbv....\
+    bsbvpppp\
+    b.bvpppp";
 
 // The bytes of a small store, and some more.
 const SMALL: usize = 512;
 
-// Whether the operation goes by the bytes of the store.
-fn by_bytes(what: u8) -> bool {
+// The row of turn i in a store of this length.
+fn row(i: usize, steps: usize, len: usize) -> usize {
+    if i == steps {
+        return 3;
+    }
+    if len <= SMALL {
+        return 1;
+    }
+    if i % 16 == 0 { 2 } else { 0 }
+}
+
+// 4 where the step goes by the bytes, or is the first.
+fn with_bytes(i: usize, what: u8) -> usize {
     match what {
-        b'd' | b'u' | b'o' => true,
-        _ => false,
+        b'd' | b'u' | b'o' => 4,
+        _ => if i == 0 { 4 } else { 0 },
     }
 }
 
-fn chosen(now: bool, act: usize) -> usize {
-    if now { act } else { NOTHING }
-}
-
-// What part j of turn i does: in larger stores values are compared every sixteenth time and bytes too, unless the store was
-// opened; own parents there as often, and in small stores at the end.
-fn part(j: usize, i: usize, last: bool, small: bool, what: u8) -> usize {
-    let now = last || i % 16 == 0;
-    match j {
-        0 => chosen(i == 0 || by_bytes(what), BYTES),
-        1 => chosen(!last, STEP),
-        2 => chosen(small || now || what == b'o', BYTES),
-        3 => chosen(small || now, VALUES),
-        _ => chosen(last || now && !small, PARENTS),
-    }
-}
-
-fn spots(last: bool) -> usize {
-    if last { MANY } else { SOME }
-}
-
-// The part k of a sequence.
-fn act(loud: bool, p: Plan, k: usize, g: usize, s: &mut [u8], m: &mut [usize; SPACE]) -> usize {
+// What the part k of a sequence does.
+fn part(p: Plan, k: usize, g: usize, len: usize, m: &[usize; SPACE]) -> u8 {
     let i = k / PARTS;
-    let j = k % PARTS;
-    let last = i == p.steps;
-    match part(j, i, last, s.len() <= SMALL, draw::what(p.kind, g, m)) {
-        BYTES => bytes_agree(loud, s, m),
-        STEP => step(loud, p.kind, g, s, m),
-        VALUES => values_agree(loud, g, spots(last), s, m),
-        PARENTS => parents::own_parent(loud, g, less(j, PARTS - parents::WAYS), s, m),
+    let r = plus(
+        row(i, p.steps, len),
+        with_bytes(i, draw::what(p.kind, g, m)),
+    );
+    ACTS[r % 8 * PARTS + k % PARTS]
+}
+
+fn spots(p: Plan, k: usize) -> usize {
+    if k / PARTS == p.steps { MANY } else { SOME }
+}
+
+fn act(loud: bool, p: Plan, k: usize, g: usize, s: &mut [u8], m: &mut [usize; SPACE]) -> usize {
+    match part(p, k, g, s.len(), m) {
+        b'b' => bytes_agree(loud, s, m),
+        b's' => step(loud, p.kind, g, s, m),
+        b'v' => values_agree(loud, g, spots(p, k), s, m),
+        b'p' => parents::own_parent(loud, g, k % parents::WAYS, s, m),
         _ => 0,
     }
 }
@@ -227,7 +206,8 @@ fn all_parts(loud: bool, p: Plan, seed: usize, s: &mut [u8], m: &mut [usize; SPA
 
 fn played(loud: bool, p: Plan, seed: usize, s: &mut [u8], m: &mut [usize; SPACE]) -> usize {
     count(m, SEQUENCES, 1);
-    let found = begin(loud, p, draw::next(seed), s, m);
+    fill(s);
+    let found = open(loud, draw::first_opening(p, draw::next(seed)), s, m);
     if found != 0 {
         return found;
     }
