@@ -7,7 +7,7 @@ use mathlib.Core.List.{List}
 use Prim.Native.Nat.{ℕ, zero, suc}
 use native.Mathlib.Omega.{arith}
 use lib.IntN.{ℤ, pos}
-use Rattle.rules.specs.Act.{Call}
+use Rattle.rules.specs.Act.{Ask, Child, Goal, Call}
 use Rattle.rules.specs.Basic.{orTop}
 use Rattle.promises.specs.declared.Answer.{Answer}
 use Rattle.promises.specs.declared.Answer.the-variants as Answer
@@ -23,14 +23,14 @@ use Rattle.promises.specs.Calls.{Promised}
 
 -- the call that an operation stands for
 abbrev pub callOf : Op → Call
-callOf (Op.Bind x v) = Call.bind x v
-callOf (Op.Wind p q) = Call.wind p q
-callOf (Op.Look x) = Call.look x
+callOf (Op.Bind x v) = Call.make (Child.bind x v)
+callOf (Op.Wind p q) = Call.make (Child.wind p q)
+callOf (Op.Look x) = Call.ask (Ask.look x)
 callOf (Op.Set x v) = Call.set x v
-callOf Op.Here = Call.here
-callOf (Op.Goto a) = Call.goto a
-callOf Op.Back = Call.back
-callOf (Op.Peek a x) = Call.peek a x
+callOf Op.Here = Call.ask Ask.here
+callOf (Op.Goto a) = Call.switch (Goal.goto a)
+callOf Op.Back = Call.switch Goal.back
+callOf (Op.Peek a x) = Call.ask (Ask.peek a x)
 
 -- ---- the numbers that a report shows; `none` stands for the 0 beside a refusal's number, and for nothing else
 abbrev pub outOf : Out → ℤ

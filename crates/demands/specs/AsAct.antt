@@ -8,31 +8,28 @@ use native.Mathlib.Omega.{arith}
 use mathlib.Core.List.{List, []}
 use lib.IntN.{ℤ, pos}
 use lib.ListN.{length}
-use Rattle.rules.specs.Tree.{wind}
-use Rattle.rules.specs.Store as store
 use Rattle.rules.specs.Store.{Deep, home}
 use Rattle.rules.specs.Far.{far}
 use Rattle.rules.specs.Moves.{moves-tree, Event}
-use Rattle.rules.specs.Refusals as refusals
 use Rattle.rules.specs.Refusals.{damaged, first}
 use Rattle.rules.specs.World.{World, alone}
-use Rattle.rules.specs.Act.{Call, Size, shown, backTo, rows, eventsOf, codeOf, outOf, movesOf, byOf, answerOf, changed, Outcome, outcome, act, refused, valueIn}
+use Rattle.rules.specs.Act.{Ask, Call, Size, shown, rows, eventsOf, codeOf, outOf, movesOf, byOf, answerOf, changed, Outcome, outcome, act, refused, valueIn}
 use Rattle.rules.specs.Effects.{SameDeep, Effect, act-effect, effect-determined}
 use Rattle.rules.specs.Demands.{switched-count, switched-events}
 use Rattle.layout.specs.Records.{focus}
 use Rattle.layout.specs.Fields.{fieldsOf}
 use Rattle.layout.specs.View.{viewF, view}
 use Rattle.layout.specs.Sound.{Sound}
+use Rattle.layout.specs.Made.{nextOf}
 use Rattle.layout.specs.Becomes.{Kept}
 use Rattle.layout.specs.Events.{eventsB, told}
 use Rattle.layout.specs.SoundLaws.{sound-view}
 use Rattle.layout.specs.WalkLaws.{kept-self, focus-made}
 use Rattle.layout.specs.Events.{eventsTo}
 use Rattle.promises.specs.Answers.{Numbers, seen}
-use Rattle.promises.specs.Tables as tables
-use Rattle.promises.specs.Promises.{meaning, at, byAt, roomFor, Shows, parentAt, SwitchDone}
-use Rattle.promises.specs.Calls.{table, Done, Called, Code, is-done, is-refused, code-of, table-rises, sound-first, done-leaves}
-use Rattle.demands.specs.Tests.{sizeAt, world, refusedAs, first-says, next-made, seen-numbered, table-says}
+use Rattle.promises.specs.Promises.{meaning, at, byAt, roomFor, Shows, SwitchDone}
+use Rattle.promises.specs.Calls.{goalAt, eventsIn, table, AskDone, Done, Called, Code, is-done, is-refused, code-of, table-rises, sound-first, done-leaves}
+use Rattle.demands.specs.Tests.{sizeAt, world, refusedAs, first-says, next-made, seen-numbered, goal-same, events-same, table-says}
 use Rattle.demands.specs.Plain.{deep-one, plain-meaning, plain-changed, ranks-changed}
 
 -- what `act` does to the meaning of s, with room for as many events as t has
@@ -53,16 +50,14 @@ pub record AsAct (c : Call) (s t s′ t′ : List ℕ) (n : Numbers) : Type 0 wh
 -- ---- what a done call changes is the rules' effect of it
 module _ (s t s′ t′ : List ℕ) (n : Numbers) (ok : Sound s) where
   pub done-effect : (c : Call) → Done c s t s′ t′ n → Effect (sizeAt s) c (world s) (meaning s′)
-  unfolding meaning home at shown backTo parentAt view viewF fieldsOf
-  done-effect (Call.bind x v) (d, e) =
-      rw (next-made s ok) (d .new, ap (λ (a : ℕ). at s′ a x) (d .new .focus) ∙ d .own, λ y h. ap (λ (a : ℕ). at s′ a y) (d .new .focus) ∙ d .rest y h)
-  done-effect (Call.wind p q) d = rw (next-made s ok) (d .new, λ y. ap (λ (a : ℕ). at s′ a y) (d .new .focus) ∙ d .rest y)
-  done-effect (Call.look x) (d, e, f) = ap meaning e
+  unfolding meaning home at view viewF fieldsOf
+  done-effect (Call.ask q) (d, e, f) = ap meaning e
+  done-effect (Call.make k) d =
+      let here : (x : ℕ) → at s′ (meaning s′ .focus) x ≡ at s′ (nextOf s) x = λ x. ap (λ (a : ℕ). at s′ a x) (d .new .focus) in
+      rw (next-made s ok) (d .new, λ x h. here x ∙ d .own x h, λ y h. here y ∙ d .rest y h)
   done-effect (Call.set x v) (d, e) = d .effect
-  done-effect Call.here (d, e, f) = ap meaning e
-  done-effect (Call.goto a) d = record { tree = moves-tree (d .switched .moves); focus = d .switched .arrives; values = d .switched .alters-nothing }
-  done-effect Call.back d = record { tree = moves-tree (d .switched .moves); focus = d .switched .arrives; values = d .switched .alters-nothing }
-  done-effect (Call.peek a x) (d, e, f) = ap meaning e
+  done-effect (Call.switch g) d =
+      rw (goal-same s ok g) (record { tree = moves-tree (d .switched .moves); focus = d .switched .arrives; values = d .switched .alters-nothing })
 
 -- ---- all of it
 pub told-none : (t : List ℕ) → told [] t ≡ t
@@ -106,27 +101,24 @@ module _ (s t s′ t′ : List ℕ) (n : Numbers) (ok : Sound s) where
   value-numbers : (a x : ℕ) → Shows s a x n → n ≡ seen (valueIn (at s a x)) (byAt s a x)
   value-numbers a x (v, e, f) = rw f e
 
-  done-numbers : (c : Call) → Done c s t s′ t′ n → n ≡ numbersOf (unrefused c s)
-  unfolding numbersOf answerOf eventsOf shown backTo meaning home at byAt parentAt view viewF fieldsOf
-  done-numbers (Call.bind x v) (d, e) = d .answer ∙ ap (λ (m : ℕ). numbered-as (pos m) 0 0) (sym (next-made s ok))
-  done-numbers (Call.wind p q) d = d .answer ∙ ap (λ (m : ℕ). numbered-as (pos m) 0 1) (sym (next-made s ok))
-  done-numbers (Call.look x) (d, e, f) = value-numbers (focus s) x d
-  done-numbers (Call.set x v) (d, e) = d .answer
-  done-numbers Call.here (d, e, f) = d
-  done-numbers (Call.goto a) d = switch-numbers a d
-  done-numbers Call.back d = switch-numbers (parentAt s) d
-  done-numbers (Call.peek a x) (d, e, f) = value-numbers a x d
+  ask-numbers : (q : Ask) → AskDone q s n → n ≡ numbersOf (unrefused (Call.ask q) s)
+  unfolding numbersOf answerOf eventsOf shown meaning home at byAt view viewF fieldsOf
+  ask-numbers (Ask.look x) d = value-numbers (focus s) x d
+  ask-numbers Ask.here d = d
+  ask-numbers (Ask.peek a x) d = value-numbers a x d
 
-  done-trace : (c : Call) → Done c s t s′ t′ n → t′ ≡ told (eventsOf c (shown (world s))) t
-  unfolding eventsOf shown backTo meaning home parentAt view viewF fieldsOf
-  done-trace (Call.bind x v) (d, e) = e ∙ sym (told-none t)
-  done-trace (Call.wind p q) d = d .trace
-  done-trace (Call.look x) (d, e, f) = f ∙ sym (told-none t)
+  done-numbers : (c : Call) → Done c s t s′ t′ n → n ≡ numbersOf (unrefused c s)
+  unfolding numbersOf answerOf eventsOf shown meaning home view viewF fieldsOf
+  done-numbers (Call.ask q) (d, e, f) = ask-numbers q d
+  done-numbers (Call.make k) d = d .answer ∙ ap (λ (m : ℕ). numbered-as (pos m) 0 (length (eventsIn (Call.make k) s))) (sym (next-made s ok))
+  done-numbers (Call.set x v) (d, e) = d .answer
+  done-numbers (Call.switch g) d = rw (goal-same s ok g) (switch-numbers (goalAt g s) d)
+
+  done-trace : (c : Call) → Done c s t s′ t′ n → t′ ≡ told (eventsIn c s) t
+  done-trace (Call.ask q) (d, e, f) = f ∙ sym (told-none t)
+  done-trace (Call.make k) d = d .trace
   done-trace (Call.set x v) (d, e) = e ∙ sym (told-none t)
-  done-trace Call.here (d, e, f) = f ∙ sym (told-none t)
-  done-trace (Call.goto a) d = switch-events a d
-  done-trace Call.back d = switch-events (parentAt s) d
-  done-trace (Call.peek a x) (d, e, f) = f ∙ sym (told-none t)
+  done-trace (Call.switch g) d = switch-events (goalAt g s) d
 
   -- the meaning
   done-meaning : (c : Call) → first (rows (sizeAt s) (roomFor t) c (shown (world s))) ≡ none → Done c s t s′ t′ n → meaning s′ ≡ changed (sizeAt s) c (world s)
@@ -147,7 +139,7 @@ unfolding numbersOf
 as-act c s t s′ t′ n ok p = go (code-of n)
   where
     low : first (rows (sizeAt s) (roomFor t) c (shown (world s))) ≡ refusedAs (n .code)
-    low = first-says damaged (table c s t) (rows (sizeAt s) (roomFor t) c (shown (world s))) (table-rises c s t) (table-says s ok t c) (n .code) (sound-first p ok)
+    low = first-says (suc damaged) (table c s t) (rows (sizeAt s) (roomFor t) c (shown (world s))) (omega arith) (table-rises c s t) (table-says s ok t c) (n .code) (sound-first p ok)
 
     is-some : (k : ℕ) → 1 ≤ k → refusedAs k ≡ some k
     is-some zero h = absurd (omega arith)
@@ -171,7 +163,7 @@ as-act c s t s′ t′ n ok p = go (code-of n)
         let (ok′, kept) = done-leaves c s t s′ t′ n ok d in
         record {
           answer = done-numbers s t s′ t′ n ok c d ∙ ap numbersOf (sym r);
-          events = done-trace s t s′ t′ n ok c d ∙ ap (λ (o : Outcome (World Deep)). told (o .events) t) (sym r);
+          events = done-trace s t s′ t′ n ok c d ∙ ap (λ (es : List Event). told es t) (sym (events-same s ok c)) ∙ ap (λ (o : Outcome (World Deep)). told (o .events) t) (sym r);
           meaning = ap alone (done-meaning s t s′ t′ n ok c none-applies d) ∙ ap (λ (o : Outcome (World Deep)). o .after) (sym r);
           sound = ok′;
           kept = kept;

@@ -19,7 +19,7 @@ use Rattle.rules.specs.Moves.{Event, route}
 use Rattle.rules.specs.Calls.{openDeep, deciderAt, decidedBy, valueAt}
 use Rattle.rules.specs.Refusals.{first, setup, damaged, noVariable, noEnvironment, noValue, full, traceRoom, atTop}
 use Rattle.rules.specs.World.{alone}
-use Rattle.rules.specs.Act.{Call, bind, wind, look, set, here, goto, back, peek, isMade, nextNumber, isFull, shown, backTo, eventsOf, rows, answerOf, changed, outcome, act, run}
+use Rattle.rules.specs.Act.{look, here, peek, bind, wind, goto, back, Call, ask, make, set, switch, isMade, nextNumber, isFull, shown, eventsOf, rows, answerOf, changed, outcome, act, run}
 use Rattle.layout.specs.Limits.{maxVars, maxNodes, bareSize, sizeOf}
 use Rattle.layout.specs.Bytes.{part, u16}
 use Rattle.layout.specs.Records.{headOf, headN, vars, room, made, blankCell, ProperCell, bitsC, bareC, topC}
@@ -122,22 +122,22 @@ table =
     ∷ row "(d) for V=1, N=4 a buffer of 61 opens" (OpensIn 61)
     ∷ row "(d) a buffer of 60 is 1" (OpensNotIn 60)
     ∷ row "(d) an opened store lent with 60 is 2" (LentShort 60)
-    ∷ row "(e) x=V-1 is good" (Gives 2 4 0 (one ++ one) (look 1 ∷ bind 1 (pos 5) ∷ set 1 (pos 6) ∷ peek 0 1 ∷ [])
+    ∷ row "(e) x=V-1 is good" (Gives 2 4 0 (one ++ one) (ask (look 1) ∷ make (bind 1 (pos 5)) ∷ set 1 (pos 6) ∷ ask (peek 0 1) ∷ [])
     (val (pos 1) 0 ∷ ok 1 [] ∷ ok 1 [] ∷ val (pos 1) 0 ∷ []))
-    ∷ row "(e) x=V is 3" (Gives 2 4 0 (one ++ one) (look 2 ∷ bind 2 (pos 5) ∷ set 2 (pos 6) ∷ peek 0 2 ∷ [])
+    ∷ row "(e) x=V is 3" (Gives 2 4 0 (one ++ one) (ask (look 2) ∷ make (bind 2 (pos 5)) ∷ set 2 (pos 6) ∷ ask (peek 0 2) ∷ [])
     (no noVariable ∷ no noVariable ∷ no noVariable ∷ no noVariable ∷ []))
-    ∷ row "(f) goto made-1 is good, made is 4" (Gives 1 4 0 one (bind 0 (pos 7) ∷ goto 1 ∷ goto 2 ∷ [])
+    ∷ row "(f) goto made-1 is good, made is 4" (Gives 1 4 0 one (make (bind 0 (pos 7)) ∷ switch (goto 1) ∷ switch (goto 2) ∷ [])
     (ok 1 [] ∷ went 1 0 [] ∷ no noEnvironment ∷ []))
-    ∷ row "(g) two winds to leave with room for two" (Gives 1 4 2 one (wind 1 2 ∷ wind 3 4 ∷ goto 0 ∷ here ∷ [])
+    ∷ row "(g) two winds to leave with room for two" (Gives 1 4 2 one (make (wind 1 2) ∷ make (wind 3 4) ∷ switch (goto 0) ∷ ask here ∷ [])
     (ok 1 (enters 1 0 ∷ []) ∷ ok 2 (enters 3 1 ∷ []) ∷ went 0 2 (leaves 4 1 ∷ leaves 2 0 ∷ []) ∷ ok 0 [] ∷ []))
-    ∷ row "(g) room for one is 7, focus unmoved" (Gives 1 4 1 one (wind 1 2 ∷ wind 3 4 ∷ goto 0 ∷ here ∷ [])
+    ∷ row "(g) room for one is 7, focus unmoved" (Gives 1 4 1 one (make (wind 1 2) ∷ make (wind 3 4) ∷ switch (goto 0) ∷ ask here ∷ [])
     (ok 1 (enters 1 0 ∷ []) ∷ ok 2 (enters 3 1 ∷ []) ∷ no traceRoom ∷ ok 2 [] ∷ []))
-    ∷ row "(h) back at the top is 8 even with no room" (Gives 1 4 0 one (back ∷ []) (no atTop ∷ []))
-    ∷ row "(i) the least value comes back" (Gives 1 4 0 one (bind 0 least ∷ look 0 ∷ []) (ok 1 [] ∷ val least 1 ∷ []))
-    ∷ row "(j) peek with both numbers too large is 3" (Gives 1 4 0 one (peek 9 9 ∷ []) (no noVariable ∷ []))
-    ∷ row "(k) the card" (Gives 1 4 2 one (bind 0 (negsuc 0) ∷ wind 10 11 ∷ bind 0 (pos 1) ∷ goto 0 ∷ goto 3 ∷ look 0 ∷ peek 1 0 ∷ bind 0 (pos 5) ∷ [])
+    ∷ row "(h) back at the top is 8 even with no room" (Gives 1 4 0 one (switch back ∷ []) (no atTop ∷ []))
+    ∷ row "(i) the least value comes back" (Gives 1 4 0 one (make (bind 0 least) ∷ ask (look 0) ∷ []) (ok 1 [] ∷ val least 1 ∷ []))
+    ∷ row "(j) peek with both numbers too large is 3" (Gives 1 4 0 one (ask (peek 9 9) ∷ []) (no noVariable ∷ []))
+    ∷ row "(k) the card" (Gives 1 4 2 one (make (bind 0 (negsuc 0)) ∷ make (wind 10 11) ∷ make (bind 0 (pos 1)) ∷ switch (goto 0) ∷ switch (goto 3) ∷ ask (look 0) ∷ ask (peek 1 0) ∷ make (bind 0 (pos 5)) ∷ [])
     (ok 1 [] ∷ ok 2 (enters 10 1 ∷ []) ∷ ok 3 [] ∷ went 0 3 (leaves 11 1 ∷ []) ∷ went 3 3 (enters 10 1 ∷ []) ∷ val (pos 1) 3 ∷ val (negsuc 0) 1 ∷ no full ∷ []))
-    ∷ row "(l) no top value: 5; bound and looked up; 5 again" (Gives 1 4 0 blankCell (look 0 ∷ bind 0 (pos 3) ∷ look 0 ∷ back ∷ look 0 ∷ [])
+    ∷ row "(l) no top value: 5; bound and looked up; 5 again" (Gives 1 4 0 blankCell (ask (look 0) ∷ make (bind 0 (pos 3)) ∷ ask (look 0) ∷ switch back ∷ ask (look 0) ∷ [])
     (no noValue ∷ ok 1 [] ∷ val (pos 3) 1 ∷ went 0 1 [] ∷ no noValue ∷ []))
     ∷ []
 
@@ -220,7 +220,7 @@ two-vars : (cs : List Call) (said : List Said)
 two-vars cs said e = gives 2 4 0 (one ++ one) cs said (omega arith) (omega arith) (omega arith) (omega arith) tops-two e
 
 pub cases : All table
-unfolding saidBy run act outcome rows answerOf eventsOf changed shown backTo isMade nextNumber isFull first upd path route far valueAt deciderAt decidedBy topCells asCell topC bareC bitsC part eventsB eventB eventD
+unfolding saidBy run act outcome rows answerOf eventsOf changed shown isMade nextNumber isFull first upd path route far valueAt deciderAt decidedBy topCells asCell topC bareC bitsC part eventsB eventB eventD
 cases = (
   λ k a b. opens-well 256 k (omega arith) (omega arith) a b,
   (

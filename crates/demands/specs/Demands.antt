@@ -5,8 +5,8 @@
 -- From document 01. Assumes that lent memory holds bytes.
 use mathlib.Core.Path.{_≡_, refl, sym, ap, _∙_}
 use mathlib.Core.Logic.{_⊎_, inl, inr, _≢_}
-use mathlib.Core.Option.{none, some}
-use Prim.Native.Nat.{ℕ, _≤_, _<_}
+use mathlib.Core.Option.{none}
+use Prim.Native.Nat.{ℕ, suc, _≤_, _<_}
 use native.Mathlib.Omega.{arith}
 use mathlib.Core.List.{List, [], _∷_, _++_, map, reverse}
 use lib.IntN.{ℤ, pos}
@@ -18,9 +18,9 @@ use Rattle.rules.specs.Store.{home}
 use Rattle.rules.specs.Moves.{Move, left, entered, Event, route, trace, trace-order}
 use Rattle.rules.specs.Meaning.{Means, home-means}
 use Rattle.rules.specs.Refusals.{setup, atTop, noValue, damaged}
-use Rattle.rules.specs.Act.{Call}
+use Rattle.rules.specs.Act.{Ask, Goal, Call, shown, Ground, grounds}
 use Rattle.rules.specs.Effects.{Effect}
-use Rattle.rules.specs.Demands.{Switched, switched-determined}
+use Rattle.rules.specs.Demands.{ground-known, Switched, switched-determined}
 use Rattle.rules.specs.Places.{InPlace, moves-placed, resumes}
 use Rattle.layout.specs.Limits.{sizeOf}
 use Rattle.layout.specs.Records.{vars, room, focus}
@@ -38,7 +38,7 @@ use Rattle.layout.specs.Opening.{topCells}
 use Rattle.promises.specs.Answers.{Numbers, refusal, seen}
 use Rattle.promises.specs.Tables.{Row, row, First, Applies, Lowest, Rising, first-exact, first-lowest, rising-above}
 use Rattle.promises.specs.Promises.{meaning, at, byAt, roomFor, Answers, Shows, damagedRow, Openable, Opened, OpenPromise, Told, SwitchDone, parentAt, GotoPromise, BackPromise, LookPromise, PeekPromise}
-use Rattle.promises.specs.Calls.{Promised, table, Done, Called, called, done-sound, Code, is-done, is-refused, code-of, opens, table-rises, sound-first}
+use Rattle.promises.specs.Calls.{Promised, eventsIn, rowAt, table, AskDone, Done, Called, called, done-sound, Code, is-done, is-refused, code-of, opens, number-same, table-rises, conditions-rise, sound-first}
 use Rattle.demands.specs.Tests.{sizeAt, world}
 use Rattle.demands.specs.AsAct.{AsAct, as-act, done-effect, told-none}
 use Rattle.demands.specs.NeverRead.{opened-value}
@@ -81,16 +81,13 @@ pub record OpensSound (v k : ℕ) (tops s s′ : List ℕ) (n : Numbers) : Type 
   pub values : (a x : ℕ) → at s′ a x ≡ topCells v tops x
   pub rest : (length s′ ≡ length s) × (drop (sizeOf v k) s′ ≡ drop (sizeOf v k) s)
 
--- what a done call answers: look and peek the deep rule's value and decider, the others the focus that they leave
+-- what a done call answers: an ask what it asks of the store (look and peek the deep rule's value and decider, here the
+-- focus), which stays as it is; the others the focus that they leave
 abbrev pub Replies : Call → List ℕ → List ℕ → Numbers → Type 0
-Replies (Call.bind x v) s s′ n = n .out ≡ pos (focus s′)
-Replies (Call.wind p q) s s′ n = n .out ≡ pos (focus s′)
-Replies (Call.look x) s s′ n = (at s (focus s) x ≡ value (n .out)) × (n .by ≡ some (byAt s (focus s) x))
+Replies (Call.ask q) s s′ n = AskDone q s n × (s′ ≡ s)
+Replies (Call.make k) s s′ n = n .out ≡ pos (focus s′)
 Replies (Call.set x v) s s′ n = n .out ≡ pos (focus s′)
-Replies Call.here s s′ n = n .out ≡ pos (focus s′)
-Replies (Call.goto a) s s′ n = n .out ≡ pos (focus s′)
-Replies Call.back s s′ n = n .out ≡ pos (focus s′)
-Replies (Call.peek a x) s s′ n = (at s a x ≡ value (n .out)) × (n .by ≡ some (byAt s a x))
+Replies (Call.switch g) s s′ n = n .out ≡ pos (focus s′)
 
 pub record ByTheRule (c : Call) (s t s′ t′ : List ℕ) (n : Numbers) : Type 0 where
   -- the store stays sound, of the same size, and no byte past the size changes
@@ -173,15 +170,13 @@ applies-at-most k [] h n a = absurd a
 applies-at-most k (r ∷ rs) h n (inl (e, w)) = omega (arith, h .0)
 applies-at-most k (r ∷ rs) h n (inr a) = applies-at-most k rs (h .1) n a
 
-table-known : (c : Call) (s t : List ℕ) → AtMost atTop (conditions c s t)
-table-known (Call.bind x v) s t = (omega arith, (omega arith, (omega arith, tt)))
-table-known (Call.wind p q) s t = (omega arith, (omega arith, (omega arith, tt)))
-table-known (Call.look x) s t = (omega arith, (omega arith, (omega arith, tt)))
-table-known (Call.set x v) s t = (omega arith, (omega arith, (omega arith, tt)))
-table-known Call.here s t = (omega arith, tt)
-table-known (Call.goto a) s t = (omega arith, (omega arith, (omega arith, tt)))
-table-known Call.back s t = (omega arith, (omega arith, (omega arith, tt)))
-table-known (Call.peek a x) s t = (omega arith, (omega arith, (omega arith, (omega arith, tt))))
+table-known : (s t : List ℕ) (es : List Event) (gs : List Ground) → AtMost atTop (map (rowAt s t es) gs)
+table-known s t es [] = tt
+table-known s t es (g ∷ gs) =
+    let low = ground-known (sizeAt s) (roomFor t) es (shown (world s)) g .1 in (
+      rw (number-same s t es (sizeAt s) (roomFor t) es (shown (world s)) g) low,
+      table-known s t es gs,
+    )
 
 answered : {rows : List Row} {n : Numbers} {Same Done : Type 0} → AtMost atTop rows → Rising rows → Answers rows n Same Done → Answered rows n Same
 answered {rows} {n} known up a = record {
@@ -199,26 +194,19 @@ answered {rows} {n} known up a = record {
 pub demand-1 : Demand1
 demand-1 = record {
   opening = λ v k tops s s′ n p. answered (omega arith, tt) (omega arith, tt) (p .answers);
-  calls = λ c s t s′ t′ n p. answered (table-known c s t) (omega arith, table-rises c s t) (called c s t s′ t′ n p);
+  calls = λ c s t s′ t′ n p. answered (omega arith, table-known s t (eventsIn c s) (grounds c)) (conditions-rise c s t) (called c s t s′ t′ n p);
 }
 
 -- ==== proofs of 2
 out-is : {n : Numbers} {o : ℤ} {m e : ℕ} → Told n o m e → n .out ≡ o
 out-is h = ap (λ (k : Numbers). k .out) h
 
-shown-replies : (s : List ℕ) (a x : ℕ) (n : Numbers) → Shows s a x n → (at s a x ≡ value (n .out)) × (n .by ≡ some (byAt s a x))
-shown-replies s a x n (v, e, f) = (f ∙ ap (λ (k : Numbers). value (k .out)) (sym e), ap (λ (k : Numbers). k .by) e)
-
 done-replies : (c : Call) (s t s′ t′ : List ℕ) (n : Numbers) → Done c s t s′ t′ n → Replies c s s′ n
 unfolding meaning home view viewF fieldsOf
-done-replies (Call.bind x v) s t s′ t′ n (d, e) = out-is (d .answer) ∙ ap pos (sym (d .new .focus))
-done-replies (Call.wind p q) s t s′ t′ n d = out-is (d .answer) ∙ ap pos (sym (d .new .focus))
-done-replies (Call.look x) s t s′ t′ n (d, g, h) = shown-replies s (focus s) x n d
+done-replies (Call.ask q) s t s′ t′ n (d, e, f) = (d, e)
+done-replies (Call.make k) s t s′ t′ n d = out-is (d .answer) ∙ ap pos (sym (d .new .focus))
 done-replies (Call.set x v) s t s′ t′ n (d, e) = out-is (d .answer) ∙ ap pos (sym (d .effect .focus))
-done-replies Call.here s t s′ t′ n (e, g, h) = out-is e ∙ ap (λ (u : List ℕ). pos (focus u)) (sym g)
-done-replies (Call.goto a) s t s′ t′ n d = out-is (d .answer) ∙ ap pos (sym (d .switched .arrives))
-done-replies Call.back s t s′ t′ n d = out-is (d .answer) ∙ ap pos (sym (d .switched .arrives))
-done-replies (Call.peek a x) s t s′ t′ n (d, g, h) = shown-replies s a x n d
+done-replies (Call.switch g) s t s′ t′ n d = out-is (d .answer) ∙ ap pos (sym (d .switched .arrives))
 
 opens-sound : (v k : ℕ) (tops s s′ : List ℕ) (n : Numbers) → Openable v k tops s → OpenPromise v k tops s s′ n → OpensSound v k tops s s′ n
 opens-sound v k tops s s′ n can p =
@@ -245,7 +233,7 @@ module _ (s : List ℕ) (a x : ℕ) (n : Numbers) where
 looks : (s : List ℕ) (x : ℕ) (s′ : List ℕ) (n : Numbers) → Sound s → x < vars s → LookPromise s x s′ n → n ≡ readAs (at s (focus s) x) (byAt s (focus s) x)
 looks s x s′ n ok known p = go (code-of n)
   where
-    valued : First (conditions (Call.look x) s []) (n .code) → 1 ≤ n .code → (noValue ≡ n .code) × (at s (focus s) x ≡ unbound)
+    valued : First (conditions (Call.ask (Ask.look x)) s []) (n .code) → 1 ≤ n .code → (noValue ≡ n .code) × (at s (focus s) x ≡ unbound)
     valued (inl (e, bad)) h = absurd (bad ok)
     valued (inr (a, inl (e, far))) h = absurd (omega arith)
     valued (inr (a, inr (b, inl w))) h = w
@@ -258,7 +246,7 @@ looks s x s′ n ok known p = go (code-of n)
 peeks : (s : List ℕ) (a x : ℕ) (s′ : List ℕ) (n : Numbers) → Sound s → x < vars s → IsMade s a → PeekPromise s a x s′ n → n ≡ readAs (at s a x) (byAt s a x)
 peeks s a x s′ n ok known made p = go (code-of n)
   where
-    valued : First (conditions (Call.peek a x) s []) (n .code) → 1 ≤ n .code → (noValue ≡ n .code) × (at s a x ≡ unbound)
+    valued : First (conditions (Call.ask (Ask.peek a x)) s []) (n .code) → 1 ≤ n .code → (noValue ≡ n .code) × (at s a x ≡ unbound)
     valued (inl (e, bad)) h = absurd (bad ok)
     valued (inr (b, inl (e, far))) h = absurd (omega arith)
     valued (inr (b, inr (c, inl (e, un)))) h = absurd (un made)
@@ -284,7 +272,7 @@ undamaged c s t k f e = go (first-exact (table c s t) k f)
   where
     go : (k ≡ 0) ⊎ Applies (table c s t) k → ⊥
     go (inl z) = omega arith
-    go (inr a) = omega (arith, rising-above damaged (table c s t) (table-rises c s t) k a)
+    go (inr a) = omega (arith, rising-above (suc damaged) (table c s t) (table-rises c s t) k a)
 
 by-the-rule : (c : Call) (s t s′ t′ : List ℕ) (n : Numbers) → Sound s → Called c s t s′ t′ n → ByTheRule c s t s′ t′ n
 unfolding meaning
@@ -354,7 +342,7 @@ resumed-there s t s′ t′ n b b′ ok p = go (p .answers .first)
     no-event : length (eventsTo s (focus s)) ≡ 0
     no-event = ap length (events-none (view s .tree) (sound-view s ok .proper) (focus s))
 
-    go : First (conditions (Call.goto (focus s)) s t) (n .code) → Told n (pos (focus s)) 0 0 × (s′ ≡ s) × (t′ ≡ t)
+    go : First (conditions (Call.switch (Goal.goto (focus s))) s t) (n .code) → Told n (pos (focus s)) 0 0 × (s′ ≡ s) × (t′ ≡ t)
     go (inl (e, bad)) = absurd (bad ok)
     go (inr (x, inl (e, un))) = absurd (un (focus-made s ok))
     go (inr (x, inr (y, inl (e, w)))) = absurd (omega (arith, no-event))
@@ -372,7 +360,7 @@ goes : (s t : List ℕ) (a : ℕ) (s′ t′ : List ℕ) (n : Numbers) → Bytes
     → GotoPromise s t a s′ t′ n → (n .code ≡ 0) × Walked s t a s′ t′ n
 goes s t a s′ t′ n b ok made enough p = let e = go (p .answers .first) in (e, gone s t a s′ t′ n b p e)
   where
-    go : First (conditions (Call.goto a) s t) (n .code) → n .code ≡ 0
+    go : First (conditions (Call.switch (Goal.goto a)) s t) (n .code) → n .code ≡ 0
     go (inl (e, bad)) = absurd (bad ok)
     go (inr (x, inl (e, un))) = absurd (un made)
     go (inr (x, inr (y, inl (e, w)))) = absurd (omega (arith, enough))
@@ -382,7 +370,7 @@ goes-back : (s t s′ t′ : List ℕ) (n : Numbers) → Bytes s → Sound s →
     → BackPromise s t s′ t′ n → (n .code ≡ 0) × Walked s t (parentAt s) s′ t′ n
 goes-back s t s′ t′ n b ok below enough p = let e = go (p .answers .first) in (e, gone-back s t s′ t′ n b p e)
   where
-    go : First (conditions Call.back s t) (n .code) → n .code ≡ 0
+    go : First (conditions (Call.switch Goal.back) s t) (n .code) → n .code ≡ 0
     go (inl (e, bad)) = absurd (bad ok)
     go (inr (x, inl (e, w))) = absurd (omega (arith, enough))
     go (inr (x, inr (y, inl (e, top)))) = absurd (below top)

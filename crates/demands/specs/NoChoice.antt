@@ -4,7 +4,6 @@
 use mathlib.Core.Path.{_≡_, refl, sym, _∙_}
 use Prim.Native.Nat.{ℕ}
 use mathlib.Core.List.{List, [], _++_}
-use lib.IntN.{ℤ}
 use lib.ListN.{take, drop, take-append-drop}
 use Rattle.rules.specs.Act.{Call}
 use Rattle.layout.specs.Limits.{sizeOf}
@@ -13,7 +12,7 @@ use Rattle.layout.specs.Becomes.{Kept}
 use Rattle.layout.specs.WalkLaws.{kept-self}
 use Rattle.layout.specs.Same.{Bytes, same-whole}
 use Rattle.promises.specs.Answers.{Numbers}
-use Rattle.promises.specs.Promises.{OpenPromise, LookPromise, PeekPromise, HerePromise, SetPromise, BindPromise, WindPromise, GotoPromise, BackPromise}
+use Rattle.promises.specs.Promises.{OpenPromise}
 use Rattle.promises.specs.Calls.{Promised, Called, called, Code, is-done, is-refused, code-of, done-sound, done-leaves}
 use Rattle.demands.specs.NeverRead.{Fate, both-refused, both-acted, fate, never-read, never-read-open}
 
@@ -47,35 +46,10 @@ module _ (s t s′ t′ s″ t″ : List ℕ) (n m : Numbers) where
         traces (both-refused e r f g h l) = h ∙ sym l
         traces (both-acted ok x y) = x .events ∙ sym (y .events)
 
-    -- ---- the same, promise by promise; a call without a trace changes none
-    pub wind-one : (p q : ℕ) → WindPromise s t p q s′ t′ n → WindPromise s t p q s″ t″ m → One
-    wind-one p q = no-choice (Call.wind p q)
-
-    pub goto-one : (a : ℕ) → GotoPromise s t a s′ t′ n → GotoPromise s t a s″ t″ m → One
-    goto-one a = no-choice (Call.goto a)
-
-    pub back-one : BackPromise s t s′ t′ n → BackPromise s t s″ t″ m → One
-    back-one = no-choice Call.back
-
 module _ (s s′ s″ : List ℕ) (n m : Numbers) (b : Bytes s′) (b′ : Bytes s″) where
-  -- with no trace
-  without : (c : Call) → Promised c s [] s′ [] n → Promised c s [] s″ [] m → (n ≡ m) × (s′ ≡ s″)
-  without c p q = let (e, f, g) = no-choice s [] s′ [] s″ [] n m b b′ c p q in (e, f)
-
-  pub bind-one : (x : ℕ) (v : ℤ) → BindPromise s x v s′ n → BindPromise s x v s″ m → (n ≡ m) × (s′ ≡ s″)
-  bind-one x v p q = without (Call.bind x v) (p, refl) (q, refl)
-
-  pub look-one : (x : ℕ) → LookPromise s x s′ n → LookPromise s x s″ m → (n ≡ m) × (s′ ≡ s″)
-  look-one x p q = without (Call.look x) (p, refl) (q, refl)
-
-  pub set-one : (x : ℕ) (v : ℤ) → SetPromise s x v s′ n → SetPromise s x v s″ m → (n ≡ m) × (s′ ≡ s″)
-  set-one x v p q = without (Call.set x v) (p, refl) (q, refl)
-
-  pub here-one : HerePromise s s′ n → HerePromise s s″ m → (n ≡ m) × (s′ ≡ s″)
-  here-one p q = without Call.here (p, refl) (q, refl)
-
-  pub peek-one : (a x : ℕ) → PeekPromise s a x s′ n → PeekPromise s a x s″ m → (n ≡ m) × (s′ ≡ s″)
-  peek-one a x p q = without (Call.peek a x) (p, refl) (q, refl)
+  -- the same of a call that is lent no trace
+  pub no-choice-untraced : (c : Call) → Promised c s [] s′ [] n → Promised c s [] s″ [] m → (n ≡ m) × (s′ ≡ s″)
+  no-choice-untraced c p q = let (e, f, g) = no-choice s [] s′ [] s″ [] n m b b′ c p q in (e, f)
 
   pub open-one : (v k : ℕ) (tops : List ℕ) → OpenPromise v k tops s s′ n → OpenPromise v k tops s s″ m → (n ≡ m) × (s′ ≡ s″)
   open-one v k tops p q = let (e, bytes) = never-read-open v k tops s s s′ s″ n m refl b b′ p q in (e, go e bytes (code-of n))

@@ -11,13 +11,11 @@ use mathlib.Core.List.{List, [], _∷_}
 use Rattle.rules.specs.Basic.{upd, upd-same, upd-other, upd-id}
 use Rattle.rules.specs.Tree.{What, blank, top, binding, wind, Proper, path, path-top}
 use Rattle.rules.specs.Values.{unbound, value, Values, exchange, swap-stored-other, leaveAll, assign, Decides, decider-decides}
-use Rattle.rules.specs.Store as store
 use Rattle.rules.specs.Store.{Deep, home}
 use Rattle.rules.specs.Calls.{deciderAt, valueAt}
 use Rattle.rules.specs.Meaning.{binds-is}
-use Rattle.rules.specs.Refusals as refusals
 use Rattle.rules.specs.World.{alone}
-use Rattle.rules.specs.Act.{Call, Size, nextNumber, changed}
+use Rattle.rules.specs.Act.{Child, Call, Size, nextNumber, whatOf, ownOf, changed}
 use Rattle.rules.specs.Effects.{SameDeep}
 use Rattle.layout.specs.Records.{focus}
 use Rattle.layout.specs.View.{view}
@@ -25,7 +23,6 @@ use Rattle.layout.specs.Sound.{Sound}
 use Rattle.layout.specs.SoundLaws.{sound-view}
 use Rattle.layout.specs.Same.{own-value, binding-up, others-blank}
 use Rattle.layout.specs.Reading.{top-up}
-use Rattle.promises.specs.Tables as tables
 use Rattle.promises.specs.Promises.{meaning}
 use Rattle.demands.specs.Tests.{seen-numbered}
 
@@ -92,44 +89,34 @@ plain-meaning s ok n h = still (view s .tree .what) (path (view s .tree) (view s
 new-rank : {rank : ℕ → ℕ} (m n : ℕ) → ((k : ℕ) → rank k ≡ k) → upd rank m m n ≡ n
 new-rank {rank} m n r = ap (λ (f : ℕ → ℕ). f n) (upd-id rank m m (r m)) ∙ r n
 
+-- a child that is no binding stores nothing
+child-plain : (k : Child) → ((x : ℕ) → whatOf k ≢ binding x) → ownOf k ≡ unbound
+child-plain (Child.bind x v) h = absurd (h x refl)
+child-plain (Child.wind p q) h = refl
+
 -- no call stores anything but by a binding, and a new node ranks by its number
 module _ (z : Size) (d : Deep) (plain : Plain d) where
   pub plain-changed : (c : Call) → Plain (changed z c (alone d))
   unfolding changed deciderAt
-  plain-changed (Call.bind x v) n h = go (ℕ-discrete n (nextNumber z (d .tree)))
+  plain-changed (Call.ask q) n h = plain n h
+  plain-changed (Call.make k) n h = go (ℕ-discrete n (nextNumber z (d .tree)))
     where
       m : ℕ
       m = nextNumber z (d .tree)
 
-      go : Dec (n ≡ m) → upd (d .own .stored) m (value v) n ≡ unbound
-      go (yes e) = absurd (h x (rw e (upd-same (d .tree .what) m (binding x))))
-      go (no e) = upd-other (d .own .stored) m n (value v) e ∙ plain n (λ y f. h y (upd-other (d .tree .what) m n (binding x) e ∙ f))
-  plain-changed (Call.wind p q) n h = go (ℕ-discrete n (nextNumber z (d .tree)))
-    where
-      m : ℕ
-      m = nextNumber z (d .tree)
-
-      go : Dec (n ≡ m) → upd (d .own .stored) m unbound n ≡ unbound
-      go (yes e) = rw e (upd-same (d .own .stored) m unbound)
-      go (no e) = upd-other (d .own .stored) m n unbound e ∙ plain n (λ y f. h y (upd-other (d .tree .what) m n (wind p q) e ∙ f))
-  plain-changed (Call.look x) n h = plain n h
+      go : Dec (n ≡ m) → upd (d .own .stored) m (ownOf k) n ≡ unbound
+      go (yes e) = rw (e, upd-same (d .own .stored) m (ownOf k)) (child-plain k (λ x f. h x (rw (e, upd-same (d .tree .what) m (whatOf k)) f)))
+      go (no e) = upd-other (d .own .stored) m n (ownOf k) e ∙ plain n (λ y f. h y (upd-other (d .tree .what) m n (whatOf k) e ∙ f))
   plain-changed (Call.set x v) n h = go (deciderAt (d .tree) (d .focus) x) (decider-decides (d .tree .what) x (path (d .tree) (d .focus)))
     where
       go : (o : Option ℕ) → Decides (d .tree .what) x (path (d .tree) (d .focus)) o → assign x (value v) o (d .own) .stored n ≡ unbound
       go none k = plain n h
       go (some m) k = upd-other (d .own .stored) m n (value v) (λ e. h x (rw e (binds-is (d .tree .what m) x (k .1)))) ∙ plain n h
-  plain-changed Call.here n h = plain n h
-  plain-changed (Call.goto a) n h = plain n h
-  plain-changed Call.back n h = plain n h
-  plain-changed (Call.peek a x) n h = plain n h
+  plain-changed (Call.switch g) n h = plain n h
 
   pub ranks-changed : (c : Call) → ((n : ℕ) → d .tree .rank n ≡ n) → (n : ℕ) → changed z c (alone d) .tree .rank n ≡ n
   unfolding changed
-  ranks-changed (Call.bind x v) r n = new-rank (nextNumber z (d .tree)) n r
-  ranks-changed (Call.wind p q) r n = new-rank (nextNumber z (d .tree)) n r
-  ranks-changed (Call.look x) r n = r n
+  ranks-changed (Call.ask q) r n = r n
+  ranks-changed (Call.make k) r n = new-rank (nextNumber z (d .tree)) n r
   ranks-changed (Call.set x v) r n = r n
-  ranks-changed Call.here r n = r n
-  ranks-changed (Call.goto a) r n = r n
-  ranks-changed Call.back r n = r n
-  ranks-changed (Call.peek a x) r n = r n
+  ranks-changed (Call.switch g) r n = r n

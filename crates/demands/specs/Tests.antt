@@ -6,19 +6,19 @@ use mathlib.Core.Bool.{Bool, true, false, not, cond}
 use mathlib.Core.Option.{Option, none, some}
 use Prim.Native.Nat.{ℕ, zero, suc, _≤_}
 use native.Mathlib.Omega.{arith}
-use mathlib.Core.List.{List, [], _∷_}
+use mathlib.Core.List.{List, [], _∷_, map}
 use lib.Dec.{leb}
 use lib.ListN.{length}
 use borrow.Author.Tests.{leb-true, leb-false}
 use Rattle.rules.specs.Basic.{clash, some≢none}
-use Rattle.rules.specs.Tree.{blank, wind, Tree}
+use Rattle.rules.specs.Tree.{blank, Tree}
 use Rattle.rules.specs.Values.{Cell, unbound, value}
-use Rattle.rules.specs.Store as store
 use Rattle.rules.specs.Store.{Deep, home}
+use Rattle.rules.specs.Moves.{Event}
 use Rattle.rules.specs.Refusals as refusals
 use Rattle.rules.specs.Refusals.{first}
 use Rattle.rules.specs.World.{World, alone}
-use Rattle.rules.specs.Act.{Call, Size, isMade, nextNumber, isFull, shown, backTo, isUnbound, isNone, rows, eventsOf}
+use Rattle.rules.specs.Act.{Goal, Call, Size, isMade, nextNumber, isFull, shown, goalOf, isUnbound, isNone, Ground, grounds, rowOf, rows, eventsOf}
 use Rattle.rules.specs.Agree.{Numbered, numbered, next-is, is-made, made-is}
 use Rattle.layout.specs.Records.{vars, room, made, focus}
 use Rattle.layout.specs.Fields.{fieldsOf}
@@ -34,7 +34,7 @@ use Rattle.layout.specs.Reading.{top-up}
 use Rattle.promises.specs.Tables as tables
 use Rattle.promises.specs.Tables.{First, RisingFrom}
 use Rattle.promises.specs.Promises.{meaning, at, roomFor, parentAt}
-use Rattle.promises.specs.Calls.{table}
+use Rattle.promises.specs.Calls.{goalAt, eventsIn, rowAt, table}
 
 -- the V and N of a store
 unfoldable pub sizeAt : List ℕ → Size
@@ -69,17 +69,17 @@ refused-as zero h = absurd (omega arith)
 refused-as (suc k) h = refl
 
 -- the first that applies, in both
-pub first-says : (k : ℕ) (rs : List tables.Row) (qs : List refusals.Row) → RisingFrom k rs → TableSays rs qs → (c : ℕ) → First rs c → first qs ≡ refusedAs c
+pub first-says : (k : ℕ) (rs : List tables.Row) (qs : List refusals.Row) → 1 ≤ k → RisingFrom k rs → TableSays rs qs → (c : ℕ) → First rs c → first qs ≡ refusedAs c
 unfolding first
-first-says k [] [] up h c e = rw e
-first-says k [] (q ∷ qs) up h c f = absurd h
-first-says k (r ∷ rs) [] up h c f = absurd h
-first-says k (r ∷ rs) (q ∷ qs) up (h, hs) c (inl (e, w)) = go (q .applies) (h .says)
+first-says k [] [] low up h c e = rw e
+first-says k [] (q ∷ qs) low up h c f = absurd h
+first-says k (r ∷ rs) [] low up h c f = absurd h
+first-says k (r ∷ rs) (q ∷ qs) low up (h, hs) c (inl (e, w)) = go (q .applies) (h .says)
   where
     go : (b : Bool) → Says b (r .when) → cond b (some (q .number)) (first qs) ≡ refusedAs c
     go true z = ap some (sym (h .number) ∙ e) ∙ sym (refused-as c (omega (arith, up .0)))
     go false z = absurd (z w)
-first-says k (r ∷ rs) (q ∷ qs) up (h, hs) c (inr (never, f)) = go (q .applies) (h .says) (first-says (r .number) rs qs (up .1) hs c f)
+first-says k (r ∷ rs) (q ∷ qs) low up (h, hs) c (inr (never, f)) = go (q .applies) (h .says) (first-says (r .number) rs qs (omega (arith, up .0)) (up .1) hs c f)
   where
     go : (b : Bool) → Says b (r .when) → first qs ≡ refusedAs c → cond b (some (q .number)) (first qs) ≡ refusedAs c
     go true z ih = absurd (never z)
@@ -136,13 +136,32 @@ module _ (s : List ℕ) (ok : Sound s) where
       go none e = sound-view s ok .proper .one-top (focus s) (made-seen s ok (focus s) (focus-made s ok)) e
       go (some p) e = λ z. some≢none (rw z at e) (top-up s ok)
 
+  pub goal-same : (g : Goal) → goalOf g (shown (world s)) ≡ goalAt g s
+  unfolding shown meaning home parentAt view viewF fieldsOf
+  goal-same (Goal.goto a) = refl
+  goal-same Goal.back = refl
+
+  pub events-same : (c : Call) → eventsOf c (shown (world s)) ≡ eventsIn c s
+  unfolding eventsOf shown meaning home view viewF fieldsOf
+  events-same (Call.ask q) = refl
+  events-same (Call.make n) = refl
+  events-same (Call.set x v) = refl
+  events-same (Call.switch g) = ap (eventsTo s) (goal-same g)
+
+  ground-says : (t : List ℕ) (es : List Event) (g : Ground) → RowSays (rowAt s t es g) (rowOf (sizeAt s) (roomFor t) es (shown (world s)) g)
+  unfolding shown meaning home at sizeAt view viewF fieldsOf
+  ground-says t es (Ground.unknown x) = row (says-le (vars s) x)
+  ground-says t es (Ground.unmade a) = row (says-unmade a)
+  ground-says t es (Ground.valueless x) = row (says-unbound (at s (focus s) x))
+  ground-says t es (Ground.valuelessAt a x) = row (says-unbound (at s a x))
+  ground-says t es Ground.noSpace = row says-full
+  ground-says t es Ground.noRoom = row (says-lt (roomFor t) (length es))
+  ground-says t es Ground.noParent = row says-top
+
+  grounds-say : (t : List ℕ) (es : List Event) (gs : List Ground) → TableSays (map (rowAt s t es) gs) (map (rowOf (sizeAt s) (roomFor t) es (shown (world s))) gs)
+  grounds-say t es [] = tt
+  grounds-say t es (g ∷ gs) = (ground-says t es g, grounds-say t es gs)
+
   pub table-says : (t : List ℕ) (c : Call) → TableSays (table c s t) (rows (sizeAt s) (roomFor t) c (shown (world s)))
-  unfolding rows shown meaning home at sizeAt eventsOf parentAt backTo view viewF fieldsOf
-  table-says t (Call.bind x v) = (row (says-le (vars s) x), (row says-full, tt))
-  table-says t (Call.wind p q) = (row says-full, (row (says-lt (roomFor t) 1), tt))
-  table-says t (Call.look x) = (row (says-le (vars s) x), (row (says-unbound (at s (focus s) x)), tt))
-  table-says t (Call.set x v) = (row (says-le (vars s) x), (row (says-unbound (at s (focus s) x)), tt))
-  table-says t Call.here = tt
-  table-says t (Call.goto a) = (row (says-unmade a), (row (says-lt (roomFor t) (length (eventsTo s a))), tt))
-  table-says t Call.back = (row (says-lt (roomFor t) (length (eventsTo s (parentAt s)))), (row says-top, tt))
-  table-says t (Call.peek a x) = (row (says-le (vars s) x), (row (says-unmade a), (row (says-unbound (at s a x)), tt)))
+  unfolding rows
+  table-says t c = rw (events-same c) (grounds-say t (eventsIn c s) (grounds c))

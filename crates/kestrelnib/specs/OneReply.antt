@@ -1,13 +1,14 @@
 -- The C functions leave no choice, in memory too: two outcomes that a function's promise allows have one reply and the same bytes
 -- in every lent buffer. From document 01, "How much a promise has to say". Each is the store's theorem (crate `demands`,
 -- NoChoice) behind `hands-one`. Assumes that what a call leaves is bytes, as memory is.
-use mathlib.Core.Path.{_≡_, sym, _∙_}
+use mathlib.Core.Path.{_≡_, refl, sym, _∙_}
 use Prim.Native.Nat.{ℕ}
 use mathlib.Core.List.{List}
 use lib.IntN.{ℤ}
+use Rattle.rules.specs.Act.{Ask, Child, Goal, Call}
 use Rattle.layout.specs.Same.{Bytes}
 use Rattle.promises.specs.Promises.{OpenPromise, LookPromise, PeekPromise, HerePromise, SetPromise, BindPromise, WindPromise, GotoPromise, BackPromise}
-use Rattle.demands.specs.NoChoice.{open-one, bind-one, wind-one, look-one, peek-one, set-one, here-one, goto-one, back-one}
+use Rattle.demands.specs.NoChoice.{no-choice, no-choice-untraced, open-one}
 use Rattle.kestrelnib.specs.declared.Reply.{Reply}
 use Rattle.kestrelnib.specs.Face.{Hands, hands-one}
 
@@ -24,26 +25,26 @@ module _ (s s′ s″ : List ℕ) (b : Bytes s′) (b′ : Bytes s″) (r q : Re
       let (same, bytes) = hands-one (λ n m. open-one s s′ s″ n m b b′ v k tops) p p′ in (same, bytes, e ∙ sym e′)
 
   pub kn-bind-one : (x : ℕ) (v : ℤ) → Hands r (BindPromise s x v s′) → Hands q (BindPromise s x v s″) → (r ≡ q) × (s′ ≡ s″)
-  kn-bind-one x v = hands-one (λ n m. bind-one s s′ s″ n m b b′ x v)
+  kn-bind-one x v = hands-one (λ n m h l. no-choice-untraced s s′ s″ n m b b′ (Call.make (Child.bind x v)) (h, refl) (l, refl))
 
   pub kn-look-one : (x : ℕ) → Hands r (LookPromise s x s′) → Hands q (LookPromise s x s″) → (r ≡ q) × (s′ ≡ s″)
-  kn-look-one x = hands-one (λ n m. look-one s s′ s″ n m b b′ x)
+  kn-look-one x = hands-one (λ n m h l. no-choice-untraced s s′ s″ n m b b′ (Call.ask (Ask.look x)) (h, refl) (l, refl))
 
   pub kn-set-one : (x : ℕ) (v : ℤ) → Hands r (SetPromise s x v s′) → Hands q (SetPromise s x v s″) → (r ≡ q) × (s′ ≡ s″)
-  kn-set-one x v = hands-one (λ n m. set-one s s′ s″ n m b b′ x v)
+  kn-set-one x v = hands-one (λ n m h l. no-choice-untraced s s′ s″ n m b b′ (Call.set x v) (h, refl) (l, refl))
 
   pub kn-here-one : Hands r (HerePromise s s′) → Hands q (HerePromise s s″) → (r ≡ q) × (s′ ≡ s″)
-  kn-here-one = hands-one (λ n m. here-one s s′ s″ n m b b′)
+  kn-here-one = hands-one (λ n m h l. no-choice-untraced s s′ s″ n m b b′ (Call.ask Ask.here) (h, refl) (l, refl))
 
   pub kn-peek-one : (a x : ℕ) → Hands r (PeekPromise s a x s′) → Hands q (PeekPromise s a x s″) → (r ≡ q) × (s′ ≡ s″)
-  kn-peek-one a x = hands-one (λ n m. peek-one s s′ s″ n m b b′ a x)
+  kn-peek-one a x = hands-one (λ n m h l. no-choice-untraced s s′ s″ n m b b′ (Call.ask (Ask.peek a x)) (h, refl) (l, refl))
 
   module _ (t t′ t″ : List ℕ) where
     pub kn-wind-one : (p k : ℕ) → Hands r (WindPromise s t p k s′ t′) → Hands q (WindPromise s t p k s″ t″) → (r ≡ q) × ((s′ ≡ s″) × (t′ ≡ t″))
-    kn-wind-one p k = hands-one (λ n m h l. both (wind-one s t s′ t′ s″ t″ n m b b′ p k h l))
+    kn-wind-one p k = hands-one (λ n m h l. both (no-choice s t s′ t′ s″ t″ n m b b′ (Call.make (Child.wind p k)) h l))
 
     pub kn-goto-one : (a : ℕ) → Hands r (GotoPromise s t a s′ t′) → Hands q (GotoPromise s t a s″ t″) → (r ≡ q) × ((s′ ≡ s″) × (t′ ≡ t″))
-    kn-goto-one a = hands-one (λ n m h l. both (goto-one s t s′ t′ s″ t″ n m b b′ a h l))
+    kn-goto-one a = hands-one (λ n m h l. both (no-choice s t s′ t′ s″ t″ n m b b′ (Call.switch (Goal.goto a)) h l))
 
     pub kn-back-one : Hands r (BackPromise s t s′ t′) → Hands q (BackPromise s t s″ t″) → (r ≡ q) × ((s′ ≡ s″) × (t′ ≡ t″))
-    kn-back-one = hands-one (λ n m h l. both (back-one s t s′ t′ s″ t″ n m b b′ h l))
+    kn-back-one = hands-one (λ n m h l. both (no-choice s t s′ t′ s″ t″ n m b b′ (Call.switch Goal.back) h l))

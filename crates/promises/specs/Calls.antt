@@ -2,54 +2,92 @@
 -- what it says of a call that is done. Open stands alone. From document 01, "What each call does". Assumes nothing.
 use mathlib.Core.Path.{_≡_, refl, sym, ap, _∙_}
 use mathlib.Core.Logic.{inl, inr}
+use mathlib.Core.Bool.{true, false}
 use Prim.Native.Nat.{ℕ, zero, suc, _≤_}
 use native.Mathlib.Omega.{arith}
-use mathlib.Core.List.{List, [], _∷_}
-use lib.IntN.{pos}
-use Rattle.rules.specs.Act.{Call}
+use mathlib.Core.List.{List, [], _∷_, map}
+use lib.IntN.{ℤ, pos}
+use lib.ListN.{length}
+use borrow.Author.Tests.{eqb-true, eqb-false}
+use Rattle.rules.specs.Basic.{clash}
+use Rattle.rules.specs.Tree.{binds}
+use Rattle.rules.specs.Moves.{Event, windEvent}
+use Rattle.rules.specs.Act.{Ask, Child, Goal, Call, Size, Shown, shown, whatOf, ownOf, eventsOf, Ground, grounds, rowOf, rows}
+use Rattle.rules.specs.Effects.{NewNode}
+use Rattle.rules.specs.World.{alone}
+use Rattle.rules.specs.Refusals as refusals
 use Rattle.rules.specs.Refusals.{setup, damaged}
+use Rattle.rules.specs.Demands.{rows-rise}
 use Rattle.layout.specs.Records.{focus}
 use Rattle.layout.specs.Sound.{Sound}
 use Rattle.layout.specs.Becomes.{Kept}
 use Rattle.layout.specs.WalkLaws.{kept-self}
-use Rattle.layout.specs.Events.{eventsTo}
+use Rattle.layout.specs.Made.{nextOf}
+use Rattle.layout.specs.Events.{eventsB, told, eventsTo}
 use Rattle.promises.specs.Answers.{Numbers, refusal}
-use Rattle.promises.specs.Tables.{Row, row, First, RisingFrom, Lowest, first-lowest}
-use Rattle.promises.specs.Promises.{Answers, damagedRow, variableRow, environmentRow, valueRow, fullRow, roomRow, topRow, Told, Shows, LookPromise, PeekPromise, HerePromise, SetDone, SetPromise, BindDone, BindPromise, entering, WindDone, WindPromise, SwitchDone, parentAt, GotoPromise, BackPromise, Openable, Opened, OpenPromise}
+use Rattle.promises.specs.Tables.{Row, row, First, RisingFrom, Rising, rising-more, Lowest, first-lowest}
+use Rattle.promises.specs.Promises.{meaning, at, Answers, damagedRow, variableRow, environmentRow, valueRow, fullRow, roomRow, topRow, Told, Shows, LookPromise, PeekPromise, HerePromise, SetDone, SetPromise, BindDone, BindPromise, WindDone, WindPromise, SwitchDone, parentAt, GotoPromise, BackPromise, Openable, Opened, OpenPromise}
 use Rattle.promises.specs.Stable.{sound-stable}
 
 -- what is promised of the call c from the store s and the trace t to s′ and t′, with the numbers n; where no trace is lent,
 -- none changes
 abbrev pub Promised : Call → List ℕ → List ℕ → List ℕ → List ℕ → Numbers → Type 0
-Promised (Call.bind x v) s t s′ t′ n = BindPromise s x v s′ n × (t′ ≡ t)
-Promised (Call.wind p q) s t s′ t′ n = WindPromise s t p q s′ t′ n
-Promised (Call.look x) s t s′ t′ n = LookPromise s x s′ n × (t′ ≡ t)
+Promised (Call.ask (Ask.look x)) s t s′ t′ n = LookPromise s x s′ n × (t′ ≡ t)
+Promised (Call.ask Ask.here) s t s′ t′ n = HerePromise s s′ n × (t′ ≡ t)
+Promised (Call.ask (Ask.peek a x)) s t s′ t′ n = PeekPromise s a x s′ n × (t′ ≡ t)
+Promised (Call.make (Child.bind x v)) s t s′ t′ n = BindPromise s x v s′ n × (t′ ≡ t)
+Promised (Call.make (Child.wind p q)) s t s′ t′ n = WindPromise s t p q s′ t′ n
 Promised (Call.set x v) s t s′ t′ n = SetPromise s x v s′ n × (t′ ≡ t)
-Promised Call.here s t s′ t′ n = HerePromise s s′ n × (t′ ≡ t)
-Promised (Call.goto a) s t s′ t′ n = GotoPromise s t a s′ t′ n
-Promised Call.back s t s′ t′ n = BackPromise s t s′ t′ n
-Promised (Call.peek a x) s t s′ t′ n = PeekPromise s a x s′ n × (t′ ≡ t)
+Promised (Call.switch (Goal.goto a)) s t s′ t′ n = GotoPromise s t a s′ t′ n
+Promised (Call.switch Goal.back) s t s′ t′ n = BackPromise s t s′ t′ n
 
 -- ---- the same, as one statement: the rows below Damaged, and what is done
+-- the place that a switch goes to
+abbrev pub goalAt : Goal → List ℕ → ℕ
+goalAt (Goal.goto a) s = a
+goalAt Goal.back s = parentAt s
+
+-- the events of a call that is done
+abbrev pub eventsIn : Call → List ℕ → List Event
+eventsIn (Call.ask q) s = []
+eventsIn (Call.make k) s = windEvent true (whatOf k) (focus s)
+eventsIn (Call.set x v) s = []
+eventsIn (Call.switch g) s = eventsTo s (goalAt g s)
+
+-- the row of a ground, for a call with these events
+abbrev pub rowAt : List ℕ → List ℕ → List Event → Ground → Row
+rowAt s t es (Ground.unknown x) = variableRow s x
+rowAt s t es (Ground.unmade a) = environmentRow s a
+rowAt s t es (Ground.valueless x) = valueRow s (focus s) x
+rowAt s t es (Ground.valuelessAt a x) = valueRow s a x
+rowAt s t es Ground.noSpace = fullRow s
+rowAt s t es Ground.noRoom = roomRow t es
+rowAt s t es Ground.noParent = topRow s
+
 abbrev pub table : Call → List ℕ → List ℕ → List Row
-table (Call.bind x v) s t = variableRow s x ∷ fullRow s ∷ []
-table (Call.wind p q) s t = fullRow s ∷ roomRow t (entering s p) ∷ []
-table (Call.look x) s t = variableRow s x ∷ valueRow s (focus s) x ∷ []
-table (Call.set x v) s t = variableRow s x ∷ valueRow s (focus s) x ∷ []
-table Call.here s t = []
-table (Call.goto a) s t = environmentRow s a ∷ roomRow t (eventsTo s a) ∷ []
-table Call.back s t = roomRow t (eventsTo s (parentAt s)) ∷ topRow s ∷ []
-table (Call.peek a x) s t = variableRow s x ∷ environmentRow s a ∷ valueRow s a x ∷ []
+table c s t = map (rowAt s t (eventsIn c s)) (grounds c)
+
+-- what an ask answers
+abbrev pub AskDone : Ask → List ℕ → Numbers → Type 0
+AskDone (Ask.look x) s n = Shows s (focus s) x n
+AskDone Ask.here s n = Told n (pos (focus s)) 0 0
+AskDone (Ask.peek a x) s n = Shows s a x n
+
+-- what BindDone and WindDone say, of any new node
+pub record MakeDone (k : Child) (s t s′ t′ : List ℕ) (n : Numbers) : Type 0 where
+  pub answer : Told n (pos (nextOf s)) 0 (length (eventsIn (Call.make k) s))
+  pub sound : Sound s′
+  pub kept : Kept s s′
+  pub new : NewNode (meaning s) (meaning s′) (nextOf s) (whatOf k)
+  pub own : (x : ℕ) → binds (whatOf k) x ≡ true → at s′ (nextOf s) x ≡ ownOf k
+  pub rest : (y : ℕ) → binds (whatOf k) y ≡ false → at s′ (nextOf s) y ≡ at s (focus s) y
+  pub trace : t′ ≡ told (eventsIn (Call.make k) s) t
 
 abbrev pub Done : Call → List ℕ → List ℕ → List ℕ → List ℕ → Numbers → Type 0
-Done (Call.bind x v) s t s′ t′ n = BindDone s x v s′ n × (t′ ≡ t)
-Done (Call.wind p q) s t s′ t′ n = WindDone s t p q s′ t′ n
-Done (Call.look x) s t s′ t′ n = Shows s (focus s) x n × (s′ ≡ s) × (t′ ≡ t)
+Done (Call.ask q) s t s′ t′ n = AskDone q s n × (s′ ≡ s) × (t′ ≡ t)
+Done (Call.make k) s t s′ t′ n = MakeDone k s t s′ t′ n
 Done (Call.set x v) s t s′ t′ n = SetDone s x v s′ n × (t′ ≡ t)
-Done Call.here s t s′ t′ n = Told n (pos (focus s)) 0 0 × (s′ ≡ s) × (t′ ≡ t)
-Done (Call.goto a) s t s′ t′ n = SwitchDone s t a s′ t′ n
-Done Call.back s t s′ t′ n = SwitchDone s t (parentAt s) s′ t′ n
-Done (Call.peek a x) s t s′ t′ n = Shows s a x n × (s′ ≡ s) × (t′ ≡ t)
+Done (Call.switch g) s t s′ t′ n = SwitchDone s t (goalAt g s) s′ t′ n
 
 abbrev pub Called : Call → List ℕ → List ℕ → List ℕ → List ℕ → Numbers → Type 0
 Called c s t s′ t′ n = Answers (damagedRow s ∷ table c s t) n ((s′ ≡ s) × (t′ ≡ t)) (Done c s t s′ t′ n)
@@ -57,15 +95,42 @@ Called c s t s′ t′ n = Answers (damagedRow s ∷ table c s t) n ((s′ ≡ s
 answers-map : {rows : List Row} {n : Numbers} {A B C D : Type 0} → (A → C) → (B → D) → Answers rows n A B → Answers rows n C D
 answers-map f g a = record { first = a .first; refused = λ h. (a .refused h .0, f (a .refused h .1)); done = λ h. g (a .done h) }
 
+asked : (q : Ask) (s t s′ t′ : List ℕ) (n : Numbers) → Promised (Call.ask q) s t s′ t′ n
+    → (s′ ≡ s) × (t′ ≡ t) × Answers (damagedRow s ∷ table (Call.ask q) s t) n (Unit {0}) (AskDone q s n)
+asked (Ask.look x) s t s′ t′ n (p, e) = (p .same, e, p .answers)
+asked Ask.here s t s′ t′ n (p, e) = (p .same, e, p .answers)
+asked (Ask.peek a x) s t s′ t′ n (p, e) = (p .same, e, p .answers)
+
+bound : {s t s′ t′ : List ℕ} {n : Numbers} (x : ℕ) (v : ℤ) → t′ ≡ t → BindDone s x v s′ n → MakeDone (Child.bind x v) s t s′ t′ n
+unfolding told eventsB
+bound {s} {t} {s′} x v e d = record {
+  answer = d .answer;
+  sound = d .sound;
+  kept = d .kept;
+  new = d .new;
+  own = λ y h. ap (at s′ (nextOf s)) (sym (eqb-true x y h)) ∙ d .own;
+  rest = λ y h. d .rest y (λ q. eqb-false x y h (sym q));
+  trace = e;
+}
+
+wound : {s t s′ t′ : List ℕ} {n : Numbers} (p q : ℕ) → WindDone s t p q s′ t′ n → MakeDone (Child.wind p q) s t s′ t′ n
+wound p q d = record {
+  answer = d .answer;
+  sound = d .sound;
+  kept = d .kept;
+  new = d .new;
+  own = λ x h. clash h refl;
+  rest = λ y h. d .rest y;
+  trace = d .trace;
+}
+
 pub called : (c : Call) (s t s′ t′ : List ℕ) (n : Numbers) → Promised c s t s′ t′ n → Called c s t s′ t′ n
-called (Call.bind x v) s t s′ t′ n (p, e) = answers-map (λ q. (q, e)) (λ d. (d, e)) (p .answers)
-called (Call.wind a b) s t s′ t′ n p = p .answers
-called (Call.look x) s t s′ t′ n (p, e) = answers-map (λ q. (p .same, e)) (λ d. (d, p .same, e)) (p .answers)
+called (Call.ask q) s t s′ t′ n p = let (same, kept, a) = asked q s t s′ t′ n p in answers-map (λ u. (same, kept)) (λ d. (d, same, kept)) a
+called (Call.make (Child.bind x v)) s t s′ t′ n (p, e) = answers-map (λ q. (q, e)) (bound x v e) (p .answers)
+called (Call.make (Child.wind a b)) s t s′ t′ n p = answers-map (λ q. q) (wound a b) (p .answers)
 called (Call.set x v) s t s′ t′ n (p, e) = answers-map (λ q. (q, e)) (λ d. (d, e)) (p .answers)
-called Call.here s t s′ t′ n (p, e) = answers-map (λ q. (p .same, e)) (λ d. (d, p .same, e)) (p .answers)
-called (Call.goto a) s t s′ t′ n p = p .answers
-called Call.back s t s′ t′ n p = p .answers
-called (Call.peek a x) s t s′ t′ n (p, e) = answers-map (λ q. (p .same, e)) (λ d. (d, p .same, e)) (p .answers)
+called (Call.switch (Goal.goto a)) s t s′ t′ n p = p .answers
+called (Call.switch Goal.back) s t s′ t′ n p = p .answers
 
 -- ---- a number is 0, or a refusal's
 pub data Code (n : Numbers) : Type 0 where
@@ -79,19 +144,37 @@ code-of n = go (n .code) refl
     go zero e = is-done e
     go (suc k) e = is-refused (omega arith)
 
--- ---- the table: its numbers rise from Damaged on, so the number given is the lowest that applies
-pub table-rises : (c : Call) (s t : List ℕ) → RisingFrom damaged (table c s t)
-table-rises (Call.bind x v) s t = (omega arith, (omega arith, tt))
-table-rises (Call.wind p q) s t = (omega arith, (omega arith, tt))
-table-rises (Call.look x) s t = (omega arith, (omega arith, tt))
-table-rises (Call.set x v) s t = (omega arith, (omega arith, tt))
-table-rises Call.here s t = tt
-table-rises (Call.goto a) s t = (omega arith, (omega arith, tt))
-table-rises Call.back s t = (omega arith, (omega arith, tt))
-table-rises (Call.peek a x) s t = (omega arith, (omega arith, (omega arith, tt)))
+-- ---- the table: its numbers are the rules' and rise, all above Damaged, so the number given is the lowest that applies
+module _ (s t : List ℕ) (es : List Event) (z : Size) (room : ℕ) (es′ : List Event) (d : Shown) where
+  pub number-same : (g : Ground) → rowAt s t es g .number ≡ rowOf z room es′ d g .number
+  number-same (Ground.unknown x) = refl
+  number-same (Ground.unmade a) = refl
+  number-same (Ground.valueless x) = refl
+  number-same (Ground.valuelessAt a x) = refl
+  number-same Ground.noSpace = refl
+  number-same Ground.noRoom = refl
+  number-same Ground.noParent = refl
+
+  rises-same : (k : ℕ) (gs : List Ground) → refusals.RisingFrom k (map (rowOf z room es′ d) gs) → RisingFrom k (map (rowAt s t es) gs)
+  rises-same k [] h = tt
+  rises-same k (g ∷ gs) h = rw (number-same g) (h .0, rises-same (rowOf z room es′ d g .number) gs (h .1))
+
+pub table-rises : (c : Call) (s t : List ℕ) → RisingFrom (suc damaged) (table c s t)
+unfolding rows
+table-rises c s t = rises-same s t (eventsIn c s) z 0 (eventsOf c d) d (suc damaged) (grounds c) (rows-rise z 0 c d)
+  where
+    -- any will do: the numbers are the same
+    z : Size
+    z = record { vars = 0; nodes = 0 }
+
+    d : Shown
+    d = shown (alone (meaning s))
+
+pub conditions-rise : (c : Call) (s t : List ℕ) → Rising (damagedRow s ∷ table c s t)
+conditions-rise c s t = (omega arith, rising-more damaged (table c s t) (table-rises c s t))
 
 pub called-lowest : (c : Call) (s t s′ t′ : List ℕ) (n : Numbers) → Called c s t s′ t′ n → Lowest (damagedRow s ∷ table c s t) (n .code)
-called-lowest c s t s′ t′ n p = first-lowest (damagedRow s ∷ table c s t) (omega arith, table-rises c s t) (n .code) (p .first)
+called-lowest c s t s′ t′ n p = first-lowest (damagedRow s ∷ table c s t) (conditions-rise c s t) (n .code) (p .first)
 
 module _ {s : List ℕ} {rows : List Row} {n : Numbers} {Same Done : Type 0} (a : Answers (damagedRow s ∷ rows) n Same Done) where
   -- where the call is done the store was sound
@@ -112,14 +195,10 @@ module _ {s : List ℕ} {rows : List Row} {n : Numbers} {Same Done : Type 0} (a 
 
 -- ---- what a done call leaves is a sound store of the same size, and no byte past the size changed
 pub done-leaves : (c : Call) (s t s′ t′ : List ℕ) (n : Numbers) → Sound s → Done c s t s′ t′ n → Sound s′ × Kept s s′
-done-leaves (Call.bind x v) s t s′ t′ n ok (d, e) = (d .sound, d .kept)
-done-leaves (Call.wind p q) s t s′ t′ n ok d = (d .sound, d .kept)
-done-leaves (Call.look x) s t s′ t′ n ok (d, e, f) = rw e (ok, kept-self s)
+done-leaves (Call.ask q) s t s′ t′ n ok (d, e, f) = rw e (ok, kept-self s)
+done-leaves (Call.make k) s t s′ t′ n ok d = (d .sound, d .kept)
 done-leaves (Call.set x v) s t s′ t′ n ok (d, e) = (d .sound, d .kept)
-done-leaves Call.here s t s′ t′ n ok (d, e, f) = rw e (ok, kept-self s)
-done-leaves (Call.goto a) s t s′ t′ n ok d = (d .sound, d .kept)
-done-leaves Call.back s t s′ t′ n ok d = (d .sound, d .kept)
-done-leaves (Call.peek a x) s t s′ t′ n ok (d, e, f) = rw e (ok, kept-self s)
+done-leaves (Call.switch g) s t s′ t′ n ok d = (d .sound, d .kept)
 
 -- ---- open: done where its arguments are good, else refused
 module _ (v k : ℕ) (tops s s′ : List ℕ) (n : Numbers) (p : OpenPromise v k tops s s′ n) where

@@ -3,7 +3,7 @@
 -- that applies" (`first-lowest`). From document 01, "The numbers a call can give back". Assumes nothing.
 use mathlib.Core.Path.{_≡_, sym, _∙_}
 use mathlib.Core.Logic.{_⊎_, inl, inr}
-use Prim.Native.Nat.{ℕ, _≤_, _<_}
+use Prim.Native.Nat.{ℕ, suc, _≤_}
 use native.Mathlib.Omega.{arith}
 use mathlib.Core.List.{List, [], _∷_}
 
@@ -39,13 +39,17 @@ pub record Lowest (rs : List Row) (code : ℕ) : Type 0 where
   pub exact : (code ≡ 0) ⊎ Applies rs code
   pub least : (n : ℕ) → Applies rs n → (1 ≤ code) × (code ≤ n)
 
--- each number is higher than the one before it, the first than k
+-- no number is lower than the one before it, the first than k
 abbrev pub RisingFrom : ℕ → List Row → Type 0
 RisingFrom k [] = Unit {0}
-RisingFrom k (r ∷ rs) = (k < r .number) × RisingFrom (r .number) rs
+RisingFrom k (r ∷ rs) = (k ≤ r .number) × RisingFrom (r .number) rs
 
 abbrev pub Rising : List Row → Type 0
-Rising rs = RisingFrom 0 rs
+Rising rs = RisingFrom 1 rs
+
+pub rising-more : (k : ℕ) (rs : List Row) → RisingFrom (suc k) rs → RisingFrom k rs
+rising-more k [] up = tt
+rising-more k (r ∷ rs) up = (omega (arith, up .0), up .1)
 
 pub first-exact : (rs : List Row) (c : ℕ) → First rs c → (c ≡ 0) ⊎ Applies rs c
 first-exact [] c h = inl h
@@ -56,12 +60,12 @@ first-exact (r ∷ rs) c (inr (never, h)) = go (first-exact rs c h)
     go (inl e) = inl e
     go (inr a) = inr (inr a)
 
-pub rising-above : (k : ℕ) (rs : List Row) → RisingFrom k rs → (n : ℕ) → Applies rs n → k < n
+pub rising-above : (k : ℕ) (rs : List Row) → RisingFrom k rs → (n : ℕ) → Applies rs n → k ≤ n
 rising-above k [] up n a = absurd a
 rising-above k (r ∷ rs) up n (inl (e, w)) = omega (arith, up .0)
 rising-above k (r ∷ rs) up n (inr a) = omega (arith, up .0, rising-above (r .number) rs (up .1) n a)
 
-first-least : (k : ℕ) (rs : List Row) → RisingFrom k rs → (c : ℕ) → First rs c → (n : ℕ) → Applies rs n → (k < c) × (c ≤ n)
+first-least : (k : ℕ) (rs : List Row) → RisingFrom k rs → (c : ℕ) → First rs c → (n : ℕ) → Applies rs n → (k ≤ c) × (c ≤ n)
 first-least k [] up c h n a = absurd a
 first-least k (r ∷ rs) up c (inl (e, w)) n (inl (f, v)) = (omega (arith, up .0), omega arith)
 first-least k (r ∷ rs) up c (inl (e, w)) n (inr a) = (omega (arith, up .0), omega (arith, rising-above (r .number) rs (up .1) n a))
@@ -70,4 +74,4 @@ first-least k (r ∷ rs) up c (inr (never, h)) n (inr a) =
     let (low, least) = first-least (r .number) rs (up .1) c h n a in (omega (arith, up .0), least)
 
 pub first-lowest : (rs : List Row) → Rising rs → (c : ℕ) → First rs c → Lowest rs c
-first-lowest rs up c h = record { exact = first-exact rs c h; least = λ n a. let (low, least) = first-least 0 rs up c h n a in (omega arith, least) }
+first-lowest rs up c h = record { exact = first-exact rs c h; least = first-least 1 rs up c h }
