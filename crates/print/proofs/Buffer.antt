@@ -4,7 +4,7 @@ use mathlib.Core.List.{List, [], _∷_, _++_, append-assoc}
 use Prim.Native.Nat.{ℕ, suc, _+_, _<_}
 use native.Mathlib.Numerals.{add-one}
 use native.Mathlib.Omega.{arith}
-use lib.ListN.{length, take, drop, set, take-append-drop, length-append}
+use lib.ListN.{length, getD, take, drop, set, take-append-drop, length-append}
 use lib.Seq.{take-suc-set, take-set-le, drop-set-lt, drop-cons, getD-set-same, lt-length-set}
 use Rattle.print.specs.Writing.{Wrote}
 
@@ -12,11 +12,16 @@ use Rattle.print.specs.Writing.{Wrote}
 abbrev pub ahead : List ℕ → List ℕ → ℕ → List ℕ
 ahead out todo p = take p out ++ (todo ++ drop (p + length todo) out)
 
-pub stored : (out : List ℕ) (b : ℕ) (todo : List ℕ) (p : ℕ) → p < length out → ahead (set out p b) todo (p + 1) ≡ ahead out (b ∷ todo) p
+stored : (out : List ℕ) (b : ℕ) (todo : List ℕ) (p : ℕ) → p < length out → ahead (set out p b) todo (p + 1) ≡ ahead out (b ∷ todo) p
 stored out b todo p h =
     let e : p + 1 + length todo ≡ p + suc (length todo) = omega arith in
     let g : p < p + suc (length todo) = omega arith in
     rw (e, drop-set-lt (p + suc (length todo)) out p b g, add-one, take-suc-set out p b h, append-assoc)
+
+-- the next byte of a text that is copied
+pub copied : (out text : List ℕ) (i p : ℕ) → i < length text → p < length out →
+    ahead (set out p (getD text i 0)) (drop (i + 1) text) (p + 1) ≡ ahead out (drop i text) p
+copied out text i p h q = rw (add-one i, drop-cons text i 0 h) (stored out (getD text i 0) (drop (suc i) text) p q)
 
 -- the same from the end: one byte less is still to be written at p
 pub stored-last : (out todo : List ℕ) (b p q : ℕ) → q ≡ p + length todo → q < length out → ahead (set out q b) todo p ≡ ahead out (todo ++ (b ∷ [])) p

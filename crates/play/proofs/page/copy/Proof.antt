@@ -1,18 +1,11 @@
 -- `play::page::copy` meets its contract. The loop's invariant: what is written and what is still to be written make the whole. Assumes nothing.
 use borrow.Author.Needs.{needs}
 use mathlib.Core.Path.{_≡_, refl, _∙_}
-use Prim.Native.Nat.{ℕ, _+_, _-_, _<_, _≤_}
-use mathlib.Core.List.{List}
-use native.Mathlib.Numerals.{add-one}
-use lib.ListN.{length, getD, drop, set, length-set, drop-of-length-le}
-use lib.Seq.{drop-cons}
-use Rattle.print.proofs.Buffer.{ahead, stored, closed}
+use Prim.Native.Nat.{_+_, _-_, _≤_}
+use lib.ListN.{length, drop, length-set, drop-of-length-le}
+use Rattle.print.proofs.Buffer.{ahead, copied, closed}
 use Rattle.play.proofs.page.copy.Statement.{statement}
 use Rattle.play.proofs.page.copy.Tie as tie
-
-one-more : (page text : List ℕ) (i p : ℕ) → i < length text → p < length page →
-    ahead (set page p (getD text i 0)) (drop (i + 1) text) (p + 1) ≡ ahead page (drop i text) p
-one-more page text i p h q = rw (add-one i, drop-cons text i 0 h) (stored page (getD text i 0) (drop (ℕ.suc i) text) p q)
 
 abbrev Inv-loop : tie.InvT-loop
 Inv-loop text page₀ at i₀ p₀ page i p = (i ≤ length text) × (p ≡ at + i) × (length page ≡ length page₀) × (ahead page (drop i text) p ≡ ahead page₀ text at)
@@ -43,7 +36,7 @@ loop-again c = (
   search needs,
   search needs,
   simp length-set (c .before .before .loop .inv .2),
-  one-more (c .before .before .loop .page) (c .before .before .before .args .text .now) (c .before .before .loop .i) (c .before .before .loop .p) (c .before .loop-test .taken) (search needs) ∙ c .before .before .loop .inv .3,
+  copied (c .before .before .loop .page) (c .before .before .before .args .text .now) (c .before .before .loop .i) (c .before .before .loop .p) (c .before .loop-test .taken) (search needs) ∙ c .before .before .loop .inv .3,
 )
 
 same-length : tie.Need-same-length Inv-loop μ-loop
