@@ -1,3 +1,3 @@
 -- Laws that the proofs of several functions cite.
 pub mod Rest
-pub mod Headings
+pub mod Following

@@ -1,24 +1,20 @@
--- The rest of a card: one line less, a line that may not stand there, and what may follow the headings. Assumes nothing.
+-- The rest of a card: one line less, and a line that may not stand there. Assumes nothing.
 use mathlib.Core.Path.{_≡_, refl, sym, ap, subst, _∙_}
 use mathlib.Core.Option.{none, some}
-use mathlib.Core.List.{List, [], _∷_, _++_, map, append-assoc}
-use Prim.Native.Nat.{ℕ, zero, suc, _+_, _-_, _≤_, _<_}
+use mathlib.Core.List.{List, [], _∷_, _++_, append-assoc}
+use Prim.Native.Nat.{ℕ, suc, _+_, _-_, _≤_, _<_}
 use native.Mathlib.Omega.{arith}
-use lib.ListN.{length, getD, take, drop, length-append, length-drop}
+use lib.ListN.{length, take, drop, length-append, length-drop}
 use lib.Seq.{drop-at}
-use Rattle.text.specs.declared.line.Cell.{Cell}
-use Rattle.text.specs.declared.line.Cell.the-variants.{Unbound}
-use Rattle.text.specs.declared.line.Op.{Op}
 use Rattle.text.specs.declared.line.Line.{Line}
-use Rattle.text.specs.declared.line.Line.the-variants.{Top, Do}
-use Rattle.text.specs.Finds.{Finds, got, gone, same}
+use Rattle.text.specs.Finds.{Finds, miss, got, gone, same}
 use Rattle.text.specs.declared.line.Next.{Next}
 use Rattle.text.specs.Lines.{written, InRange, Leads, nextOf}
 use Rattle.text.proofs.Cutting.{to-end}
 use Rattle.card.specs.declared.check.Verdict.{Verdict}
-use Rattle.card.specs.declared.check.Verdict.the-variants.{Good, Bad}
+use Rattle.card.specs.declared.check.Verdict.the-variants.{Bad}
 use Rattle.card.specs.Cards.{Made, Opens, Breaks, text}
-use Rattle.card.specs.Judging.{Judged, Body}
+use Rattle.card.specs.Judging.{Judged}
 
 -- ---- no text of a line is empty
 filled : (l : Line) (t : List ℕ) → written l ++ (10 ∷ t) ≡ [] → ⊥
@@ -34,10 +30,10 @@ module _ {s : List ℕ} {l : Line} {n : ℕ} (f : Finds (Leads s) (some (l, n)))
       ap (drop n) (e ∙ sym (append-assoc (written l) (10 ∷ []) t))
       ∙ drop-at (written l ++ (10 ∷ [])) t n (length-append (written l) (10 ∷ []) ∙ sym (lead .size))
 
-  pub joined : s ≡ written l ++ (10 ∷ drop n s)
+  joined : s ≡ written l ++ (10 ∷ drop n s)
   joined = lead .text ∙ ap (λ (t : List ℕ). written l ++ (10 ∷ t)) (sym (behind (lead .rest) (lead .text)))
 
-  pub enough : (0 < n) × (n ≤ length s)
+  enough : (0 < n) × (n ≤ length s)
   enough = (omega (arith, lead .size), omega (arith, lead .size, ap length (lead .text) ∙ length-append (written l) (10 ∷ lead .rest)))
 
   -- a text of in-range lines that is s begins with that line
@@ -146,87 +142,13 @@ module _ {K : List Line → Type 0} {s : List ℕ} (in-range : (x : Line) (ls : 
   pub no-line : {before : ℕ} → Finds (Leads s) none → Judged K s before (Bad (before + 1))
   no-line {before} f = verdict (stops (λ x ls n w p. gone f refl p))
 
+  -- nothing is left, and something was due
+  pub at-end : {before : ℕ} → s ≡ [] → Judged K s before (Bad (before + 1))
+  at-end {before} e = no-line (miss (λ a p. filled (a .0) (p .rest) (sym (p .text) ∙ e)))
+
   pub other-line : {before : ℕ} {l : Line} {n : ℕ} → Finds (Leads s) (some (l, n)) → ((ls : List Line) → K (l ∷ ls) → ⊥) → Judged K s before (Bad (before + 1))
   other-line {before} {l} {n} f h =
       verdict (stops (λ x ls k w p. h ls (subst (λ (y : Line). K (y ∷ ls)) (sym (ap (λ (a : Line × ℕ). a .0) (same f refl p))) w)))
-
--- ---- what may stand in the body
-module _ {k : ℕ} where
-  pub body-range : (x : Line) (ls : List Line) → Body k (x ∷ ls) → InRange x
-  body-range x ls b = b .range .0
-
-pub body-some : (k : ℕ) → (ls : List Line) × Body k ls
-body-some zero = ([], record { tops = []; ops = []; order = refl; count = refl; range = tt })
-body-some (suc k) = go (body-some k)
-  where
-    go : (ls : List Line) × Body k ls → (ls : List Line) × Body (suc k) ls
-    go (ls, b) = (
-      Top Unbound ∷ ls,
-      record { tops = Unbound ∷ b .tops; ops = b .ops; order = ap (λ (t : List Line). Top Unbound ∷ t) (b .order); count = ap suc (b .count); range = (tt, b .range) },
-    )
-
--- a body's first line, and the body behind it
-pub head-is : {x y : Line} {ls ms : List Line} → x ∷ ls ≡ y ∷ ms → x ≡ y
-head-is {x} {y} {ls} {ms} e = ap (λ (l : List Line). getD l 0 x) e
-
-pub tail-is : {x y : Line} {ls ms : List Line} → x ∷ ls ≡ y ∷ ms → ls ≡ ms
-tail-is {x} {y} {ls} {ms} e = ap (drop 1) e
-
-pub top-first : {k : ℕ} {x : Line} {ls : List Line} → 0 < k → Body k (x ∷ ls) → (c : Cell) × (x ≡ Top c)
-top-first {k} {x} {ls} p b = go (b .tops) (b .count) (b .order)
-  where
-    go : (cs : List Cell) → length cs ≡ k → x ∷ ls ≡ map Top cs ++ map Do (b .ops) → (c : Cell) × (x ≡ Top c)
-    go [] h e = absurd (omega (arith, h))
-    go (c ∷ cs) h e = (c, head-is e)
-
-module _ {k : ℕ} {x : Line} {ls : List Line} (b : Body (suc k) (x ∷ ls)) where
-  top-less : Body k ls
-  top-less = go (b .tops) (b .count) (b .order)
-    where
-      go : (cs : List Cell) → length cs ≡ suc k → x ∷ ls ≡ map Top cs ++ map Do (b .ops) → Body k ls
-      go [] h e = absurd (omega (arith, h))
-      go (c ∷ cs) h e = record { tops = cs; ops = b .ops; order = tail-is e; count = omega (arith, h); range = b .range .1 }
-
-top-more : {k : ℕ} {x : Line} {c : Cell} → x ≡ Top c → InRange x → (ls : List Line) → Body k ls → Body (suc k) (x ∷ ls)
-top-more {k} {x} {c} e r ls b =
-    record {
-      tops = c ∷ b .tops;
-      ops = b .ops;
-      order = (λ i. e i ∷ b .order i);
-      count = ap suc (b .count);
-      range = (r, b .range);
-    }
-
-pub no-tops : {k : ℕ} → 0 < k → Body k [] → ⊥
-no-tops {k} p b = go (b .tops) (b .count) (b .order)
-  where
-    go : (cs : List Cell) → length cs ≡ k → [] ≡ map Top cs ++ map Do (b .ops) → ⊥
-    go [] h e = omega (arith, h)
-    go (c ∷ cs) h e = omega (arith, ap length e)
-
-module _ {x : Line} {ls : List Line} (b : Body 0 (x ∷ ls)) where
-  pub op-first : (o : Op) × (x ≡ Do o)
-  op-first = go (b .tops) (b .count) (b .ops) (b .order)
-    where
-      go : (cs : List Cell) → length cs ≡ 0 → (os : List Op) → x ∷ ls ≡ map Top cs ++ map Do os → (o : Op) × (x ≡ Do o)
-      go [] h [] e = absurd (omega (arith, ap length e))
-      go [] h (o ∷ os) e = (o, head-is e)
-      go (c ∷ cs) h os e = absurd (omega (arith, h))
-
-  op-less : Body 0 ls
-  op-less = go (b .tops) (b .count) (b .ops) (b .order)
-    where
-      go : (cs : List Cell) → length cs ≡ 0 → (os : List Op) → x ∷ ls ≡ map Top cs ++ map Do os → Body 0 ls
-      go [] h [] e = absurd (omega (arith, ap length e))
-      go [] h (o ∷ os) e = record { tops = []; ops = os; order = tail-is e; count = refl; range = b .range .1 }
-      go (c ∷ cs) h os e = absurd (omega (arith, h))
-
-op-more : {x : Line} {o : Op} → x ≡ Do o → InRange x → (ls : List Line) → Body 0 ls → Body 0 (x ∷ ls)
-op-more {x} {o} e r ls b = go (b .tops) (b .count) (b .order)
-  where
-    go : (cs : List Cell) → length cs ≡ 0 → ls ≡ map Top cs ++ map Do (b .ops) → Body 0 (x ∷ ls)
-    go [] h q = record { tops = []; ops = o ∷ b .ops; order = (λ i. e i ∷ q i); count = refl; range = (r, b .range) }
-    go (c ∷ cs) h q = absurd (omega (arith, h))
 
 -- ---- the same lines are whole
 pub judged-iff : {K M : List Line → Type 0} {s : List ℕ} {before : ℕ} {r : Verdict} → ((ls : List Line) → K ls → M ls) →
@@ -248,22 +170,3 @@ judged-iff {K} {M} {s} {before} {r} f g j =
     opens : {K M : List Line → Type 0} {n : ℕ} → ((ls : List Line) → K ls → M ls) → Opens K s n → Opens M s n
     opens {K} {M} {n} f o =
         record { first = o .first; more = o .more; rest = o .rest; whole = f (o .first ++ o .more) (o .whole); count = o .count; bytes = o .bytes }
-
--- ---- one line of the body
-module _ {s : List ℕ} {l : Line} {n before : ℕ} {r : Verdict} (f : Finds (Leads s) (some (l, n))) where
-  pub top-step : (k : ℕ) {c : Cell} → 0 < k → l ≡ Top c → Judged (Body (k - 1)) (drop n s) (before + 1) r → Judged (Body k) s before r
-  top-step zero {c} h e j = absurd (omega arith)
-  top-step (suc k) {c} h e j =
-      let q : suc k - 1 ≡ k = omega arith in
-      step f (Body (suc k)) body-range (judged-iff (top-more e (got f refl .range)) (λ ls b. top-less b) (rw q at j))
-
-  pub op-step : {o : Op} → l ≡ Do o → Judged (Body 0) (drop n s) (before + 1) r → Judged (Body 0) s before r
-  op-step {o} e j = step f (Body 0) body-range (judged-iff (op-more e (got f refl .range)) (λ ls b. op-less b) j)
-
-pub body-ends : {s : List ℕ} {before : ℕ} → s ≡ [] → Judged (Body 0) s before Good
-unfolding body-some
-body-ends {s} {before} e =
-    record {
-      good = λ q. record { lines = []; whole = body-some 0 .1; bytes = e };
-      bad = λ m q. absurd (let z : _≡_ {A = ℕ} 0 1 = cc in omega arith);
-    }

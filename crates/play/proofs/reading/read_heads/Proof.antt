@@ -9,12 +9,22 @@ use denote.Enum.Declared.{tagOf}
 use Rattle.text.proofs.Table.{not-taken}
 use Rattle.text.proofs.line.Line.{the-type}
 use Rattle.text.specs.declared.line.Line.{Line}
-use Rattle.card.proofs.Headings.{vars-inj, nodes-inj, room-inj}
+use Rattle.text.specs.declared.line.Line.the-variants.{Vars, Nodes, Room}
 use Rattle.play.specs.Steps.{Ahead}
 use Rattle.play.proofs.Lines.{within, is-missing, is-found}
 use borrow.Author.Needs.{needs}
 use Rattle.play.proofs.reading.read_heads.Statement.{statement}
 use Rattle.play.proofs.reading.read_heads.Tie as tie
+
+-- ---- a heading has one number
+vars-inj : (x y : ℕ) → Vars x ≡ Vars y → x ≡ y
+vars-inj x y e = cc
+
+nodes-inj : (x y : ℕ) → Nodes x ≡ Nodes y → x ≡ y
+nodes-inj x y e = cc
+
+room-inj : (x y : ℕ) → Room x ≡ Room y → x ≡ y
+room-inj x y e = cc
 
 -- ---- a heading read: it is the first of the lines ahead, and ends within the card
 one : (c : tie.After-known-told) {x : Line} {ls : List Line} → Ahead (c .before .before .before .before .before .args .card .now) 0 (x ∷ ls)
