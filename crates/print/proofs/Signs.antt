@@ -1,30 +1,19 @@
 -- A value written by its sign: 32 bits without the sign, and the text. Assumes nothing.
-use mathlib.Core.Path.{_≡_, refl, sym, ap, _∙_}
+use mathlib.Core.Path.{_≡_, ap}
 use mathlib.Core.Bool.{true, false}
 use mathlib.Core.List.{_∷_}
 use Prim.Native.Nat.{ℕ, suc, _<_}
 use native.Mathlib.Omega.{arith}
 use borrow.Author.Tests.{le-ltb}
-use lib.Dec.{leb·zero}
 use lib.IntN.{ℤ, pos, negsuc, natAbs, _-ℤ_}
 use lib.Signed.{leZ}
 use mir.Syntax.{w32}
 use mir.Val.{ofZ, toZ, SFits}
 use mir.ValLaws.{toZ-ofZ}
 use Rattle.text.specs.Decimal.{decimal, whole}
+use Rattle.text.proofs.Signed.{from-zero, below-zero}
 
--- ---- a value without its sign: from 0 up, and -1 less one below
-clash : true ≡ false → ⊥
-clash e = let q : _≡_ {A = ℕ} 0 1 = cc in omega arith
-
-pub from-zero : (z : ℤ) → SFits w32 z → leZ (pos 0) (toZ w32 (ofZ w32 z)) ≡ true → (n : ℕ) × (z ≡ pos n) × (n < 2147483648)
-from-zero (pos n) f h = (n, refl, f .sfits)
-from-zero (negsuc n) f h = absurd (clash (sym h ∙ ap (leZ (pos 0)) (toZ-ofZ w32 (negsuc n) f)))
-
-pub below-zero : (z : ℤ) → SFits w32 z → leZ (pos 0) (toZ w32 (ofZ w32 z)) ≡ false → (n : ℕ) × (z ≡ negsuc n) × (n < 2147483648)
-below-zero (pos n) f h = absurd (clash (sym (leb·zero n) ∙ ap (leZ (pos 0)) (sym (toZ-ofZ w32 (pos n) f)) ∙ h))
-below-zero (negsuc n) f h = (n, refl, f .sfits)
-
+-- ---- -1 less a value below 0
 up : (n : ℕ) → negsuc 0 -ℤ negsuc n ≡ pos n
 up n = rw (le-ltb (suc n) 1 (omega arith)) (ap pos (omega arith))
 

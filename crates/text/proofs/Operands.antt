@@ -30,7 +30,7 @@ use Rattle.text.specs.Decimal.{decimal, whole}
 use Rattle.text.specs.Every.{All, all-map}
 use Rattle.text.specs.DecimalLaws.{Digit, decimal-digits}
 use Rattle.text.specs.Limits.{maxNumber}
-use Rattle.text.specs.Numbers.{Within, Valued, IsValue}
+use Rattle.text.specs.Numbers.{Within, Valued, IsValue, Counted}
 use Rattle.text.specs.Keys.{text, numbers, words, Starts, Searched}
 use Rattle.text.specs.Lines.{key, operands, InRange, Good, Pair, pair, Says}
 use Rattle.text.proofs.Table.{every, member, listed}
@@ -127,15 +127,61 @@ pub below : {s : List ℕ} {o : Option ℕ} → Finds (Within s 0 (maxNodes - 1)
 below {s} {o} =
     finds-iff (λ n p. (p .text, (let h : n ≤ maxNodes - 1 = p .high in omega arith))) (λ n q. record { text = q .0; low = omega arith; high = omega (arith, q .1) })
 
-pub paired : {B : Type 0} {spell : B → List ℕ} {R : B → Type 0} {s : List ℕ} {o : Option (ℕ × B)} → Finds (Pair spell R s) o →
-    Finds (λ a. (s ≡ pair (decimal (a .0)) (spell (a .1))) × ((a .0 ≤ maxNumber) × R (a .1))) o
-paired {B} {spell} {R} {s} {o} =
-    finds-iff (λ a p. (p .text, (p .first, p .second))) (λ a q. record { text = q .0; first = q .1 .0; second = q .1 .1 })
-
 -- a value in 32 bits and back
 pub kept : (z : ℤ) → IsValue z → toZ w32 (ofZ w32 z) ≡ z
 kept (pos n) h = toZ-ofZ w32 (pos n) (record { sfits = omega arith })
 kept (negsuc n) h = toZ-ofZ w32 (negsuc n) (record { sfits = omega arith })
+
+-- two numbers of a word that these follow
+abbrev pub Two : List ℕ → ℕ × ℕ → Type 0
+Two s a = (s ≡ pair (decimal (a .0)) (decimal (a .1))) × ((a .0 ≤ maxNumber) × (a .1 ≤ maxNumber))
+
+module _ {s : List ℕ} where
+  -- a number and a value, of a word that these follow
+  pub paired : {o : Option (ℕ × ℤ)} → Finds (Pair s) o → Finds (λ a. (s ≡ pair (decimal (a .0)) (whole (a .1))) × ((a .0 ≤ maxNumber) × IsValue (a .1))) o
+  paired {o} = finds-iff (λ a p. (p .text, (p .first, p .second))) (λ a q. record { text = q .0; first = q .1 .0; second = q .1 .1 })
+
+  -- two numbers are a pair whose value is a number
+  as-pair : (a : ℕ × ℕ) → Two s a → Pair s (a .0, pos (a .1))
+  unfolding whole
+  as-pair a q = record { text = q .0; first = q .1 .0; second = omega (arith, q .1 .1) }
+
+  module _ {b : Option (ℕ × ℤ)} {x : ℕ} {v : ℤ} (f : Finds (Pair s) b) (e : b ≡ some (x, v)) {o : Option ℕ}
+      (g : Finds (Counted (toZ w32 (ofZ w32 v)) maxNumber) o) where
+    there-two : (n : ℕ) → Counted (toZ w32 (ofZ w32 v)) maxNumber n → Two s (x, n)
+    unfolding whole
+    there-two n p =
+        let q = got f e in
+        (q .text ∙ ap (λ (z : ℤ). pair (decimal x) (whole z)) (sym (kept v (q .second)) ∙ p .is), (q .first, p .high))
+
+    back-two : (a : ℕ × ℕ) → Two s a → (n : ℕ) × Counted (toZ w32 (ofZ w32 v)) maxNumber n × ((x, n) ≡ a)
+    back-two a q =
+        let h = same f e (as-pair a q) in
+        (a .1, record { is = kept v (got f e .second) ∙ ap (λ (c : ℕ × ℤ). c .1) h; high = q .1 .1 }, λ j. (h j .0, a .1))
+
+    pub two-some : {n : ℕ} → o ≡ some n → Finds (Two s) (some (x, n))
+    two-some {n} = carry-some (λ n. (x, n)) there-two back-two g
+
+    pub two-none : o ≡ none → Finds (Two s) none
+    two-none = carry-none (λ n. (x, n)) there-two back-two g
+
+  -- what two numbers follow has a pair
+  pair-of : (l : Line) → numbers (key l) ≡ 2 → s ≡ operands l → InRange l → (a : ℕ × ℤ) × Pair s a
+  pair-of (line.Vars n) h e r = absurd (omega (arith, h))
+  pair-of (line.Nodes n) h e r = absurd (omega (arith, h))
+  pair-of (line.Room n) h e r = absurd (omega (arith, h))
+  pair-of (line.Top c) h e r = absurd (omega (arith, h))
+  pair-of (line.Do (op.Bind x v)) h e r = ((x, v), record { text = e; first = r .0; second = r .1 })
+  pair-of (line.Do (op.Wind p q)) h e r = (_, as-pair (p, q) (e, r))
+  pair-of (line.Do (op.Look x)) h e r = absurd (omega (arith, h))
+  pair-of (line.Do (op.Set x v)) h e r = ((x, v), record { text = e; first = r .0; second = r .1 })
+  pair-of (line.Do op.Here) h e r = absurd (omega (arith, h))
+  pair-of (line.Do (op.Goto a)) h e r = absurd (omega (arith, h))
+  pair-of (line.Do op.Back) h e r = absurd (omega (arith, h))
+  pair-of (line.Do (op.Peek a x)) h e r = (_, as-pair (a, x) (e, r))
+
+  pub no-pair : (w : Word) {b : Option (ℕ × ℤ)} → Finds (Pair s) b → b ≡ none → Finds (Says 2 w s) none
+  no-pair w {b} f e = miss (λ l p. gone f e (pair-of l (ap numbers (p .word) ∙ p .follow) (p .text) (p .range) .1))
 
 -- ---- words that a match leaves over: a computed test that none of them has so many numbers
 abbrev spared : ℕ → List ℕ → ℕ → Word → Bool

@@ -1,21 +1,24 @@
--- A value read by its sign: behind a minus, and without one. Assumes nothing.
+-- A value by its sign: tested, and read behind a minus and without one. Assumes nothing.
 use mathlib.Core.Path.{_≡_, refl, sym, ap, subst, _∙_}
+use mathlib.Core.Bool.{true, false}
 use mathlib.Core.Option.{Option, none, some}
 use mathlib.Core.List.{List, [], _∷_}
 use Prim.Native.Nat.{ℕ, zero, suc, _+_, _-_, _<_, _≤_}
 use native.Mathlib.Omega.{arith}
 use native.Mathlib.Nat.{zero-add}
-use lib.IntN.{ℤ, pos, negsuc, _-ℤ_}
+use lib.IntN.{ℤ, pos, negsuc, natAbs, _-ℤ_}
 use lib.ListN.{length, getD, take, drop}
 use lib.Seq.{take-all}
+use lib.Dec.{leb·zero}
+use lib.Signed.{leZ}
 use mir.Syntax.{w32}
 use mir.Val.{ofZ, toZ, SFits}
 use mir.ValLaws.{toZ-pos, toZ-ofZ}
-use Rattle.text.specs.Finds.{Finds, miss, got, carry-some, carry-none}
+use Rattle.text.specs.Finds.{Finds, hit, miss, got, carry-some, carry-none}
 use Rattle.text.specs.Decimal.{decimal, whole}
 use Rattle.text.specs.Every.{All}
 use Rattle.text.specs.DecimalLaws.{Digit, decimal-digits, decimal-some}
-use Rattle.text.specs.Numbers.{Within, Valued}
+use Rattle.text.specs.Numbers.{Within, Valued, Counted}
 
 -- ---- -1 less n, in 32 bits
 down : (n : ℕ) → negsuc 0 -ℤ pos n ≡ negsuc n
@@ -28,6 +31,32 @@ module _ (n : ℕ) (h : n < 2147483648) where
 
   pub down-is : toZ w32 (ofZ w32 (negsuc 0 -ℤ toZ w32 n)) ≡ negsuc n
   down-is = toZ-ofZ w32 _ down-fits ∙ rw (toZ-pos w32 n h) (down n)
+
+-- ---- a value by its sign, as the code tests it
+clash : true ≡ false → ⊥
+clash e = let q : _≡_ {A = ℕ} 0 1 = cc in omega arith
+
+pub from-zero : (z : ℤ) → SFits w32 z → leZ (pos 0) (toZ w32 (ofZ w32 z)) ≡ true → (n : ℕ) × (z ≡ pos n) × (n < 2147483648)
+from-zero (pos n) f h = (n, refl, f .sfits)
+from-zero (negsuc n) f h = absurd (clash (sym h ∙ ap (leZ (pos 0)) (toZ-ofZ w32 (negsuc n) f)))
+
+pub below-zero : (z : ℤ) → SFits w32 z → leZ (pos 0) (toZ w32 (ofZ w32 z)) ≡ false → (n : ℕ) × (z ≡ negsuc n) × (n < 2147483648)
+below-zero (pos n) f h = absurd (clash (sym (leb·zero n) ∙ ap (leZ (pos 0)) (sym (toZ-ofZ w32 (pos n) f)) ∙ h))
+below-zero (negsuc n) f h = (n, refl, f .sfits)
+
+-- a value that is a number, or not
+module _ {z : ℤ} {most : ℕ} (f : SFits w32 z) where
+  pub counted : leZ (pos 0) (toZ w32 (ofZ w32 z)) ≡ true → natAbs (toZ w32 (ofZ w32 z)) ≤ most → Finds (Counted z most) (some (natAbs (toZ w32 (ofZ w32 z))))
+  counted h l =
+      let w = from-zero z f h in
+      let k : natAbs z ≤ most = rw (toZ-ofZ w32 z f) at l in
+      rw (toZ-ofZ w32 z f) (hit (natAbs z) (record { is = w .1 ∙ ap (λ (y : ℤ). pos (natAbs y)) (sym (w .1)); high = k }) (λ n p. ap natAbs (p .is)))
+
+  pub over : most < natAbs (toZ w32 (ofZ w32 z)) → Finds (Counted z most) none
+  over l = let k : most < natAbs z = rw (toZ-ofZ w32 z f) at l in miss (λ n p. omega (arith, k, ap natAbs (p .is), p .high))
+
+  pub uncounted : leZ (pos 0) (toZ w32 (ofZ w32 z)) ≡ false → Finds (Counted z most) none
+  uncounted h = miss (λ n p. (let e : negsuc (below-zero z f h .0) ≡ pos n = sym (below-zero z f h .1) ∙ p .is in let q : _≡_ {A = ℕ} 0 1 = cc in omega arith))
 
 no-minus : (n : ℕ) (t : List ℕ) → 45 ∷ t ≡ decimal n → ⊥
 no-minus n t e = let d : All Digit (45 ∷ t) = subst (All Digit) (sym e) (decimal-digits n) in let l : 48 ≤ 45 = d .0 .low in omega arith

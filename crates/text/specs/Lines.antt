@@ -19,8 +19,6 @@ use Rattle.text.specs.declared.line.Next.{Next}
 use Rattle.text.specs.declared.line.Next.the-variants as next
 use Rattle.text.specs.declared.line.Bound.{Bound}
 use Rattle.text.specs.declared.line.Bound.the-variants as bound
-use Rattle.text.specs.declared.line.Numbers.{Numbers}
-use Rattle.text.specs.declared.line.Numbers.the-variants as numbers
 use Rattle.text.specs.Words.{bytes}
 use Rattle.text.specs.Decimal.{decimal, whole}
 use Rattle.text.specs.Numbers.{IsValue}
@@ -105,21 +103,17 @@ abbrev pub boundOf : Bound → Option (ℕ × ℤ)
 boundOf (bound.Both x v) = some (x, v)
 boundOf bound.Bad = none
 
-abbrev pub numbersOf : Numbers → Option (ℕ × ℕ)
-numbersOf (numbers.Both a b) = some (a, b)
-numbersOf numbers.Bad = none
-
 -- i is the first place of b in s, or the length where b does not stand there
 pub record FirstAt (b : ℕ) (s : List ℕ) (i : ℕ) : Type 0 where
   pub inside : i ≤ length s
   pub before : (k : ℕ) → k < i → getD s k 0 ≡ b → ⊥
   pub here : i < length s → getD s i 0 ≡ b
 
--- s is a number in range, a comma and another thing in its range
-pub record Pair {B : Type 0} (spell : B → List ℕ) (R : B → Type 0) (s : List ℕ) (a : ℕ × B) : Type 0 where
-  pub text : s ≡ pair (decimal (a .0)) (spell (a .1))
+-- s is a number in range, a comma and a value
+pub record Pair (s : List ℕ) (a : ℕ × ℤ) : Type 0 where
+  pub text : s ≡ pair (decimal (a .0)) (whole (a .1))
   pub first : a .0 ≤ maxNumber
-  pub second : R (a .1)
+  pub second : IsValue (a .1)
 
 -- l is a line of the key word w, which so many numbers follow, with the operands s, in range
 pub record Says (count : ℕ) (w : Word) (s : List ℕ) (l : Line) : Type 0 where

@@ -39,6 +39,11 @@ pub record Valued (s : List ℕ) (z : ℤ) : Type 0 where
   pub text : s ≡ whole z
   pub range : IsValue z
 
+-- the value z is the number n, at most a limit
+pub record Counted (z : ℤ) (most n : ℕ) : Type 0 where
+  pub is : z ≡ pos n
+  pub high : n ≤ most
+
 -- w is v with the digit b behind it, and is at most a limit
 pub record Grown (v b most w : ℕ) : Type 0 where
   pub digit : Digit b

@@ -3,7 +3,7 @@ ghost use mathlib.Core.Path.{_≡_};
 ghost use Prim.Native.Nat.{_-_, _≤_};
 ghost use lib.IntN.{negsuc};
 ghost use Rattle.text.specs.Finds.{Finds};
-ghost use Rattle.text.specs.Numbers.{naturalOf, wholeOf, Grown, Within, Valued, misbegun};
+ghost use Rattle.text.specs.Numbers.{naturalOf, wholeOf, Grown, Within, Valued, Counted, misbegun};
 
 // A number from 0 up, or no such decimal.
 pub(crate) enum Natural {
@@ -94,4 +94,18 @@ pub(crate) fn read_whole(s: &[u8]) -> Whole
         return Whole::Bad;
     };
     Whole::Value(n as i32)
+}
+
+// The number that the value v is, at most `most`.
+pub(crate) fn number_of(v: i32, most: u32) -> Natural
+    ensures { λ r. ⌜ Finds (Counted v most) (naturalOf r) ⌝ }
+{
+    if 0 <= v {
+        let n = v as u32;
+        if n <= most {
+            return Natural::Value(n);
+        }
+        return Natural::Bad;
+    }
+    Natural::Bad
 }

@@ -2,6 +2,7 @@
 use crate::Card;
 use crate::decimal::Natural;
 use crate::decimal::Whole;
+use crate::decimal::number_of;
 use crate::decimal::read_natural;
 use crate::decimal::read_whole;
 use crate::keys::Found;
@@ -9,12 +10,8 @@ use crate::keys::Word;
 use crate::keys::find_key;
 use crate::keys::is_text;
 ghost use mathlib.Core.Path.{_≡_};
-ghost use Prim.Native.Nat.{_≤_};
-ghost use Rattle.text.specs.Decimal.{decimal, whole};
 ghost use Rattle.text.specs.Finds.{Finds};
-ghost use Rattle.text.specs.Limits.{maxNumber};
-ghost use Rattle.text.specs.Lines.{lineOf, nextOf, Leads, boundOf, numbersOf, FirstAt, Good, Pair, Says};
-ghost use Rattle.text.specs.Numbers.{IsValue};
+ghost use Rattle.text.specs.Lines.{lineOf, nextOf, Leads, boundOf, FirstAt, Good, Pair, Says};
 
 // A top value, or none.
 pub enum Cell {
@@ -60,12 +57,6 @@ enum Bound {
     Bad,
 }
 
-// Two numbers with a comma between them.
-enum Numbers {
-    Both(u32, u32),
-    Bad,
-}
-
 // The place of the first b in s, or the length where there is none.
 fn find_byte(s: &[u8], b: u8) -> usize
     ensures { λ r. ⌜ FirstAt b (now (s .entry)) r ⌝ }
@@ -81,7 +72,7 @@ fn find_byte(s: &[u8], b: u8) -> usize
 }
 
 fn read_bound(s: &[u8]) -> Bound
-    ensures { λ r. ⌜ Finds (Pair whole IsValue (now (s .entry))) (boundOf r) ⌝ }
+    ensures { λ r. ⌜ Finds (Pair (now (s .entry))) (boundOf r) ⌝ }
 {
     let i = find_byte(s, b',');
     if s.len() <= i {
@@ -94,22 +85,6 @@ fn read_bound(s: &[u8]) -> Bound
         return Bound::Bad;
     };
     Bound::Both(x, v)
-}
-
-fn read_numbers(s: &[u8]) -> Numbers
-    ensures { λ r. ⌜ Finds (Pair decimal (λ n. n ≤ maxNumber) (now (s .entry))) (numbersOf r) ⌝ }
-{
-    let i = find_byte(s, b',');
-    if s.len() <= i {
-        return Numbers::Bad;
-    }
-    let Natural::Value(a) = read_natural(&s[..i], 0, Card::NUMBER) else {
-        return Numbers::Bad;
-    };
-    let Natural::Value(b) = read_natural(&s[i + 1..], 0, Card::NUMBER) else {
-        return Numbers::Bad;
-    };
-    Numbers::Both(a, b)
 }
 
 // The top value that s gives.
@@ -190,30 +165,23 @@ fn read_one(word: Word, s: &[u8]) -> Reading
 fn read_two(word: Word, s: &[u8]) -> Reading
     ensures { λ r. ⌜ Finds (Says 2 word (now (s .entry))) (lineOf r) ⌝ }
 {
+    let Bound::Both(x, v) = read_bound(s) else {
+        return Reading::Bad;
+    };
     match word {
-        Word::Bind => {
-            let Bound::Both(x, v) = read_bound(s) else {
-                return Reading::Bad;
-            };
-            Reading::Good(Line::Do(Op::Bind(x, v)))
-        },
-        Word::Set => {
-            let Bound::Both(x, v) = read_bound(s) else {
-                return Reading::Bad;
-            };
-            Reading::Good(Line::Do(Op::Set(x, v)))
-        },
+        Word::Bind => Reading::Good(Line::Do(Op::Bind(x, v))),
+        Word::Set => Reading::Good(Line::Do(Op::Set(x, v))),
         Word::Wind => {
-            let Numbers::Both(p, q) = read_numbers(s) else {
+            let Natural::Value(q) = number_of(v, Card::NUMBER) else {
                 return Reading::Bad;
             };
-            Reading::Good(Line::Do(Op::Wind(p as u16, q as u16)))
+            Reading::Good(Line::Do(Op::Wind(x as u16, q as u16)))
         },
         Word::Peek => {
-            let Numbers::Both(a, x) = read_numbers(s) else {
+            let Natural::Value(y) = number_of(v, Card::NUMBER) else {
                 return Reading::Bad;
             };
-            Reading::Good(Line::Do(Op::Peek(a, x)))
+            Reading::Good(Line::Do(Op::Peek(x, y)))
         },
         _ => Reading::Bad,
     }

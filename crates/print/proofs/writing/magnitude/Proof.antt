@@ -5,7 +5,8 @@ use native.Mathlib.Omega.{arith}
 use lib.IntN.{natAbs}
 use mir.Syntax.{w32}
 use mir.ValLaws.{toZ-ofZ}
-use Rattle.print.proofs.Signs.{from-zero, below-zero, flipped, flipped-bits}
+use Rattle.text.proofs.Signed.{from-zero, below-zero}
+use Rattle.print.proofs.Signs.{flipped, flipped-bits}
 use borrow.Author.Needs.{needs}
 use Rattle.print.proofs.writing.magnitude.Statement.{statement}
 use Rattle.print.proofs.writing.magnitude.Tie as tie

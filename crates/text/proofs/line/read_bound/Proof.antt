@@ -53,15 +53,13 @@ enum-told-2 c = search needs
 
 returns-3 : tie.Need-returns-3
 returns-3 c =
-    second-none (c .before .before .before .before .before .before .before .before .before .before .find-byte .ensures) (c .before .before .before .before .before .before .before .read-natural .ensures) (c .before .before .read-whole .ensures) (λ v p. (p .text, p .range))
-    (λ v t r. record { text = t; range = r }) (ap wholeOf (c .enum-told2 .given .1))
+    second-none (c .before .before .before .before .before .before .before .before .before .before .find-byte .ensures) (c .before .before .before .before .before .before .before .read-natural .ensures) (c .before .before .read-whole .ensures) (ap wholeOf (c .enum-told2 .given .1))
 
 returns-4 : tie.Need-returns-4
 returns-4 c =
     let e = ap wholeOf (c .before .v .given .1) in
     rw (kept (c .before .v .given .0 .0) (got (c .before .before .before .read-whole .ensures) e .range))
-    (both (c .before .before .before .before .before .before .before .before .before .before .before .find-byte .ensures) (c .before .before .before .before .before .before .before .before .read-natural .ensures) (c .before .before .before .read-whole .ensures) (λ v p. (p .text, p .range))
-    (λ v t r. record { text = t; range = r }) (c .before .before .before .before .before .before .before .before .before .before .if1 .left) (ap naturalOf (c .before .before .before .before .before .before .x .given .1)) e)
+    (both (c .before .before .before .before .before .before .before .before .before .before .before .find-byte .ensures) (c .before .before .before .before .before .before .before .before .read-natural .ensures) (c .before .before .before .read-whole .ensures) (c .before .before .before .before .before .before .before .before .before .before .if1 .left) (ap naturalOf (c .before .before .before .before .before .before .x .given .1)) e)
 
 pub read-bound-spec : {M : Type 1} → statement M
 read-bound-spec =
