@@ -6,7 +6,6 @@ use native.Mathlib.Omega.{arith}
 use lib.ListN.{length, take, drop, length-append}
 use lib.Seq.{take-at, take-all, length-take-le}
 use Rattle.layout.specs.Limits.{bareSize}
-use Rattle.layout.specs.Bytes.{splice}
 use Rattle.layout.specs.RecordLaws.{value-length}
 use Rattle.text.specs.declared.line.Cell.{Cell}
 use Rattle.text.specs.declared.line.Cell.the-variants.{Value, Unbound}
@@ -16,12 +15,13 @@ use Rattle.text.specs.declared.line.Next.{Next}
 use Rattle.text.specs.declared.line.Next.the-variants as Next
 use Rattle.text.specs.Finds.{Finds}
 use Rattle.text.specs.Lines.{Leads, nextOf}
-use Rattle.card.specs.Tops.{cellB, Put}
+use Rattle.print.specs.Writing.{Wrote}
+use Rattle.card.specs.Tops.{cellB}
 use Rattle.play.specs.Output.{topsB}
 use Rattle.play.specs.Steps.{Ahead}
 use Rattle.play.proofs.Lines.{is-missing, is-found}
 
-cell-long : (c : Cell) → length (cellB c) ≡ bareSize
+pub cell-long : (c : Cell) → length (cellB c) ≡ bareSize
 unfolding cellB
 cell-long (Value v) = value-length v
 cell-long Unbound = refl
@@ -32,14 +32,13 @@ tops-more [] c = append-nil (cellB c)
 tops-more (b ∷ cs) c = ap (λ (t : List ℕ). cellB b ++ t) (tops-more cs c) ∙ sym (append-assoc (cellB b) (topsB cs) (cellB c))
 
 -- one cell more
-cell-put : (tops : List ℕ) (x : ℕ) (c : Cell) → x < length tops / bareSize
-    → take (bareSize * (x + 1)) (splice tops (bareSize * x) bareSize (cellB c)) ≡ take (bareSize * x) tops ++ cellB c
-unfolding splice
-cell-put tops x c h =
+cell-put : {tops tops′ : List ℕ} {next : ℕ} (x : ℕ) (c : Cell) → x < length tops / bareSize → Wrote tops (bareSize * x) (cellB c) tops′ next
+    → take (bareSize * (x + 1)) tops′ ≡ take (bareSize * x) tops ++ cellB c
+cell-put {tops} {tops′} {next} x c h put =
     let held : length (take (bareSize * x) tops) ≡ bareSize * x = length-take-le (bareSize * x) tops (omega (arith, h)) in
     let long : length (take (bareSize * x) tops ++ cellB c) ≡ bareSize * (x + 1) = length-append (take (bareSize * x) tops) (cellB c) ∙ omega (arith, held, cell-long c) in
-    ap (take (bareSize * (x + 1))) (sym (append-assoc (take (bareSize * x) tops) (cellB c) (drop bareSize (drop (bareSize * x) tops))))
-    ∙ take-at (take (bareSize * x) tops ++ cellB c) (drop bareSize (drop (bareSize * x) tops)) (bareSize * (x + 1)) long
+    ap (take (bareSize * (x + 1))) (put .bytes ∙ sym (append-assoc (take (bareSize * x) tops) (cellB c) (drop next tops)))
+    ∙ take-at (take (bareSize * x) tops ++ cellB c) (drop next tops) (bareSize * (x + 1)) long
 
 top-inj : {c d : Cell} → Top c ≡ Top d → c ≡ d
 top-inj {c} {d} e = cc
@@ -76,10 +75,10 @@ module _ {cs : List Cell} {ls : List Line} {card : List ℕ} {at x : ℕ} {tops 
         go [] q a = absurd (none-todo [] q refl some-left)
         go (c ∷ todo) q a = (c, is-found card at e found a .0)
 
-    pub taken-more : {l : Line} {n : ℕ} {c : Cell} {tops′ : List ℕ} → next ≡ Next.Good l n → Finds (Leads (drop at card)) (nextOf next) → l ≡ Top c
-        → x < length tops / bareSize → Put tops x c tops′
+    pub taken-more : {l : Line} {n : ℕ} {c : Cell} {tops′ : List ℕ} {end : ℕ} → next ≡ Next.Good l n → Finds (Leads (drop at card)) (nextOf next) → l ≡ Top c
+        → x < length tops / bareSize → Wrote tops (bareSize * x) (cellB c) tops′ end
         → Taken cs ls card (at + n) (x + 1) tops′
-    taken-more {l} {n} {c} {tops′} good found is fits put = go (k .todo) (k .all) (k .ahead)
+    taken-more {l} {n} {c} {tops′} {end} good found is fits put = go (k .todo) (k .all) (k .ahead)
       where
         go : (todo : List Cell) → cs ≡ k .done ++ todo → Ahead card at (map Top todo ++ ls) → Taken cs ls card (at + n) (x + 1) tops′
         go [] q a = absurd (none-todo [] q refl some-left)
@@ -90,8 +89,8 @@ module _ {cs : List Cell} {ls : List Line} {card : List ℕ} {at x : ℕ} {tops 
               todo = todo;
               all = q ∙ sym (append-assoc (k .done) (d ∷ []) todo);
               count = length-append (k .done) (d ∷ []) ∙ omega (arith, k .count);
-              bytes = ap (take (bareSize * (x + 1))) (put .within fits ∙ ap (λ (b : Cell). splice tops (bareSize * x) bareSize (cellB b)) same)
-                  ∙ cell-put tops x d fits ∙ ap (λ (t : List ℕ). t ++ cellB d) (k .bytes) ∙ sym (tops-more (k .done) d);
+              bytes = cell-put x d fits (subst (λ (b : Cell). Wrote tops (bareSize * x) (cellB b) tops′ end) same put)
+                  ∙ ap (λ (t : List ℕ). t ++ cellB d) (k .bytes) ∙ sym (tops-more (k .done) d);
               ahead = is-found card at good found a .1;
             }
 

@@ -20,7 +20,7 @@ impl Page {
 }
 
 // The bytes of text, at a place; the answer is the place behind them.
-fn copy(text: &[u8], page: &mut [u8], at: usize) -> usize
+pub(crate) fn copy(text: &[u8], page: &mut [u8], at: usize) -> usize
     requires { ⌜ at + length (now text) ≤ length (now page) ⌝ }
     ensures { λ r. ⌜ Wrote (now (page .entry)) at (now (text .entry)) (now (page .exit)) r ⌝ }
 {

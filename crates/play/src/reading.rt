@@ -1,5 +1,6 @@
 // The lines of a card that was found good, read once more as it is run.
-use card::tops::put_top;
+use crate::page::copy;
+use card::tops::bare;
 use layout::Store;
 use text::line::Line;
 use text::line::Next;
@@ -82,7 +83,7 @@ pub(crate) fn read_tops(card: &[u8], from: usize, tops: &mut [u8]) -> usize
         let Line::Top(cell) = line else {
             return at;
         };
-        put_top(tops, x, cell);
+        copy(&bare(cell), tops, Store::BARE * x);
         at += n;
         x += 1;
     }

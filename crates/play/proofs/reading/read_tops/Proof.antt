@@ -1,7 +1,7 @@
 -- `play::reading::read_tops` meets its contract. The loop's invariant: the first top values are cells, the others ahead. Assumes nothing.
 use mathlib.Core.Path.{_≡_, refl, sym, ap, _∙_}
 use mathlib.Core.List.{List, [], _∷_, _++_, map}
-use Prim.Native.Nat.{ℕ, _*_, _-_, _≤_}
+use Prim.Native.Nat.{_*_, _-_, _≤_}
 use native.Mathlib.Omega.{arith}
 use lib.ListN.{length}
 use denote.Enum.Declared.{tagOf}
@@ -13,7 +13,7 @@ use Rattle.text.specs.declared.line.Line.{Line}
 use Rattle.text.specs.declared.line.Line.the-variants.{Top}
 use Rattle.play.specs.Steps.{Ahead}
 use Rattle.play.proofs.Lines.{within}
-use Rattle.play.proofs.Tops.{Taken, taken-none, top-there, is-top, taken-more, taken-all}
+use Rattle.play.proofs.Tops.{cell-long, Taken, taken-none, top-there, is-top, taken-more, taken-all}
 use borrow.Author.Needs.{needs}
 use Rattle.play.proofs.reading.read_tops.Statement.{statement}
 use Rattle.play.proofs.reading.read_tops.Tie as tie
@@ -54,12 +54,21 @@ returns-2 : tie.Need-returns-2 Inv-loop μ-loop
 returns-2 c = λ cs ls e a.
     absurd (not-taken (0 ∷ 1 ∷ 2 ∷ 4 ∷ []) 3 tt (ap (tagOf the-type) (is-top (c .before .before .before .before .before .before .loop .inv .2 cs ls e a) (omega (arith, c .before .before .before .before .before .loop-test .taken, c .before .before .before .before .before .before .loop .inv .1, e)) (c .before .before .line .given .1) (c .before .before .before .before .line-at .ensures) .1)) (c .match2 .keys2))
 
-put-top-requires : tie.Need-put-top-requires Inv-loop μ-loop
-put-top-requires c κs = search needs
+bare-requires : tie.Need-bare-requires Inv-loop μ-loop
+bare-requires c κs = search needs
+
+slice-aggregate-copy : tie.Need-slice-aggregate-copy Inv-loop μ-loop
+slice-aggregate-copy c = sym (ap length (c .before .bare .ensures) ∙ cell-long _)
+
+mul-copy : tie.Need-mul-copy Inv-loop μ-loop
+mul-copy c = search needs
+
+copy-requires : tie.Need-copy-requires Inv-loop μ-loop
+copy-requires c κs = omega (arith, ap length (c .before .before .bare .ensures) ∙ cell-long _, c .before .before .before .before .before .before .before .before .before .before .loop-test .taken)
 
 add-at : tie.Need-add-at Inv-loop μ-loop
 add-at c =
-    let m = within (c .before .before .before .before .before .before .before .before .before .before .before .before .before .before .before .args .card .now) (c .before .before .before .before .before .before .before .before .before .before .before .before .loop .at) (c .before .before .before .before .before .before .before .before .line .given .1) (c .before .before .before .before .before .before .before .before .before .before .line-at .ensures) (c .before .before .before .before .before .before .before .before .before .before .before .before .loop .inv .0) in
+    let m = within (c .before .before .before .before .before .before .before .before .before .before .before .before .before .before .before .before .before .args .card .now) (c .before .before .before .before .before .before .before .before .before .before .before .before .before .before .loop .at) (c .before .before .before .before .before .before .before .before .before .before .line .given .1) (c .before .before .before .before .before .before .before .before .before .before .before .before .line-at .ensures) (c .before .before .before .before .before .before .before .before .before .before .before .before .before .before .loop .inv .0) in
     record { fits = omega (arith, m .1) }
 
 add-x : tie.Need-add-x Inv-loop μ-loop
@@ -70,11 +79,11 @@ loop-less c = search needs
 
 loop-again : tie.Need-loop-again Inv-loop μ-loop
 loop-again c =
-    let m = within (c .before .before .before .before .before .before .before .before .before .before .before .before .before .before .before .args .card .now) (c .before .before .before .before .before .before .before .before .before .before .before .before .loop .at) (c .before .before .before .before .before .before .before .before .line .given .1) (c .before .before .before .before .before .before .before .before .before .before .line-at .ensures) (c .before .before .before .before .before .before .before .before .before .before .before .before .loop .inv .0) in (
+    let m = within (c .before .before .before .before .before .before .before .before .before .before .before .before .before .before .before .before .before .args .card .now) (c .before .before .before .before .before .before .before .before .before .before .before .before .before .before .loop .at) (c .before .before .before .before .before .before .before .before .before .before .line .given .1) (c .before .before .before .before .before .before .before .before .before .before .before .before .line-at .ensures) (c .before .before .before .before .before .before .before .before .before .before .before .before .before .before .loop .inv .0) in (
       m .1,
-      c .before .tops .given ∙ c .before .before .before .before .before .before .before .before .before .before .before .before .loop .inv .1,
-      λ cs ls e a. taken-more (c .before .before .before .before .before .before .before .before .before .before .before .before .loop .inv .2 cs ls e a) (omega (arith, c .before .before .before .before .before .before .before .before .before .before .before .loop-test .taken, c .before .before .before .before .before .before .before .before .before .before .before .before .loop .inv .1, e)) (c .before .before .before .before .before .before .before .before .line .given .1) (c .before .before .before .before .before .before .before .before .before .before .line-at .ensures)
-          (c .before .before .before .before .before .line2 .given .1) (c .before .before .before .before .before .before .before .before .before .before .before .loop-test .taken) (c .before .before .put-top .ensures),
+      c .before .tops .given ∙ c .before .before .before .before .before .before .before .before .before .before .before .before .before .before .loop .inv .1,
+      λ cs ls e a. taken-more (c .before .before .before .before .before .before .before .before .before .before .before .before .before .before .loop .inv .2 cs ls e a) (omega (arith, c .before .before .before .before .before .before .before .before .before .before .before .before .before .loop-test .taken, c .before .before .before .before .before .before .before .before .before .before .before .before .before .before .loop .inv .1, e)) (c .before .before .before .before .before .before .before .before .before .before .line .given .1) (c .before .before .before .before .before .before .before .before .before .before .before .before .line-at .ensures)
+          (c .before .before .before .before .before .before .before .line2 .given .1) (c .before .before .before .before .before .before .before .before .before .before .before .before .before .loop-test .taken) (rw (c .before .before .before .before .before .bare .ensures) at (c .before .before .copy .ensures)),
     )
 
 same-length-3 : tie.Need-same-length-3 Inv-loop μ-loop
@@ -98,7 +107,10 @@ read-tops-spec =
     enum-known-line-2
     same-length-2
     returns-2
-    put-top-requires
+    bare-requires
+    slice-aggregate-copy
+    mul-copy
+    copy-requires
     add-at
     add-x
     loop-less
