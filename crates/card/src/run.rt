@@ -10,7 +10,8 @@ ghost use Prim.Native.Nat.{_*_, _≤_};
 ghost use lib.ListN.{length};
 ghost use Rattle.layout.specs.Limits.{eventSize};
 ghost use Rattle.promises.specs.Answers.{numbers, flat};
-ghost use Rattle.card.specs.Running.{outBy, reportOf, Ran};
+ghost use Rattle.promises.specs.Calls.{Promised};
+ghost use Rattle.card.specs.Running.{callOf, outBy, reportOf, Ran};
 
 // What is printed as the answer: none on a refusal, else a number, or a value and its decider.
 fn answer_of(n: Flat) -> Out
@@ -39,19 +40,26 @@ fn reported(op: u32, a: Answer) -> Report
     }
 }
 
+// The call that the operation stands for.
+fn call(op: Op, store: &mut [u8], trace: &mut [u8]) -> Answer
+    ensures { λ r. ⌜ Promised (callOf op) (now (store .entry)) (now (trace .entry)) (now (store .exit)) (now (trace .exit)) (numbers r) ⌝ }
+{
+    match op {
+        Op::Bind(x, v) => store::bind(store, x, v),
+        Op::Wind(p, q) => store::wind(store, trace, p, q),
+        Op::Look(x) => store::look(store, x),
+        Op::Set(x, v) => store::set(store, x, v),
+        Op::Here => store::here(store),
+        Op::Goto(a) => store::goto(store, trace, a),
+        Op::Back => store::back(store, trace),
+        Op::Peek(a, x) => store::peek(store, a, x),
+    }
+}
+
 // The operation with this number is run.
 pub fn run(number: u32, op: Op, store: &mut [u8], trace: &mut [u8]) -> Report
     ensures { λ r. ⌜ Ran number op (now (store .entry)) (now (trace .entry)) (now (store .exit)) (now (trace .exit)) r ⌝ }
     ensures { λ r. ⌜ r .events * eventSize ≤ length (now (trace .entry)) ⌝ }
 {
-    match op {
-        Op::Bind(x, v) => reported(number, store::bind(store, x, v)),
-        Op::Wind(p, q) => reported(number, store::wind(store, trace, p, q)),
-        Op::Look(x) => reported(number, store::look(store, x)),
-        Op::Set(x, v) => reported(number, store::set(store, x, v)),
-        Op::Here => reported(number, store::here(store)),
-        Op::Goto(a) => reported(number, store::goto(store, trace, a)),
-        Op::Back => reported(number, store::back(store, trace)),
-        Op::Peek(a, x) => reported(number, store::peek(store, a, x)),
-    }
+    reported(number, call(op, store, trace))
 }

@@ -1,192 +1,23 @@
--- `card::run::run` meets its contract: each operation's call keeps its promise, and the report is its answer's. Assumes nothing.
-use mathlib.Core.Path.{refl}
-use mir.Syntax.{w32}
-use mir.ValLaws.{toZ-ofZ}
-use Rattle.text.specs.declared.line.Op.the-variants as Op
+-- `card::run::run` meets its contract: the report is that of the call's answer. Assumes nothing.
 use Rattle.card.specs.Roomy.{ran}
 use borrow.Author.Needs.{needs}
 use Rattle.card.proofs.run.run.Statement.{statement}
 use Rattle.card.proofs.run.run.Tie as tie
 
-enum-known-op : tie.Need-enum-known-op
-enum-known-op c = search needs
-
-bind-requires : tie.Need-bind-requires
-bind-requires c κs = search needs
+call-requires : tie.Need-call-requires
+call-requires c κs = search needs
 
 reported-requires : tie.Need-reported-requires
 reported-requires c κs = search needs
 
-enum-known-op-2 : tie.Need-enum-known-op-2
-enum-known-op-2 c = search needs
-
-wind-requires : tie.Need-wind-requires
-wind-requires c κs = search needs
-
-reported-requires-2 : tie.Need-reported-requires-2
-reported-requires-2 c κs = search needs
-
-enum-known-op-3 : tie.Need-enum-known-op-3
-enum-known-op-3 c = search needs
-
-look-requires : tie.Need-look-requires
-look-requires c κs = search needs
-
-reported-requires-3 : tie.Need-reported-requires-3
-reported-requires-3 c κs = search needs
-
-enum-known-op-4 : tie.Need-enum-known-op-4
-enum-known-op-4 c = search needs
-
-set-requires : tie.Need-set-requires
-set-requires c κs = search needs
-
-reported-requires-4 : tie.Need-reported-requires-4
-reported-requires-4 c κs = search needs
-
-enum-told : tie.Need-enum-told
-enum-told c = search needs
-
-here-requires : tie.Need-here-requires
-here-requires c κs = search needs
-
-reported-requires-5 : tie.Need-reported-requires-5
-reported-requires-5 c κs = search needs
-
-enum-known-op-5 : tie.Need-enum-known-op-5
-enum-known-op-5 c = search needs
-
-goto-requires : tie.Need-goto-requires
-goto-requires c κs = search needs
-
-reported-requires-6 : tie.Need-reported-requires-6
-reported-requires-6 c κs = search needs
-
-enum-told-2 : tie.Need-enum-told-2
-enum-told-2 c = search needs
-
-back-requires : tie.Need-back-requires
-back-requires c κs = search needs
-
-reported-requires-7 : tie.Need-reported-requires-7
-reported-requires-7 c κs = search needs
-
-enum-known-op-6 : tie.Need-enum-known-op-6
-enum-known-op-6 c = search needs
-
-peek-requires : tie.Need-peek-requires
-peek-requires c κs = search needs
-
-reported-requires-8 : tie.Need-reported-requires-8
-reported-requires-8 c κs = search needs
-
 same-length : tie.Need-same-length
 same-length c = search needs
-
-returns : tie.Need-returns
-returns c =
-    let x = c .before .before .before .before .before .before .op .given .0 .0 in
-    let v = c .before .before .before .before .before .before .op .given .0 .1 .0 in
-    rw (c .before .before .before .before .before .before .op .given .1) (ran _ (Op.Bind x v) _ _ _ _ (c .before .before .before .bind .result) _ (c .reported .ensures) (rw (toZ-ofZ w32 v (record { sfits = c .before .before .before .before .before .known-told .given .1 .0 .1 })) at (c .before .before .before .bind .ensures), refl))
 
 same-length-2 : tie.Need-same-length-2
 same-length-2 c = search needs
 
-same-length-3 : tie.Need-same-length-3
-same-length-3 c = search needs
-
-returns-2 : tie.Need-returns-2
-returns-2 c = rw (c .before .before .before .before .before .before .before .before .before .op2 .given .1) (ran _ (Op.Wind _ _) _ _ _ _ (c .before .before .before .before .before .wind .result) _ (c .reported2 .ensures) (c .before .before .before .before .before .wind .ensures))
-
-same-length-4 : tie.Need-same-length-4
-same-length-4 c = search needs
-
-returns-3 : tie.Need-returns-3
-returns-3 c = rw (c .before .before .before .before .op3 .given .1) (ran _ (Op.Look _) _ _ _ _ (c .before .look .result) _ (c .reported3 .ensures) (c .before .look .ensures, refl))
-
-same-length-5 : tie.Need-same-length-5
-same-length-5 c = search needs
-
-returns-4 : tie.Need-returns-4
-returns-4 c =
-    let x = c .before .before .before .before .before .before .op4 .given .0 .0 in
-    let v = c .before .before .before .before .before .before .op4 .given .0 .1 .0 in
-    rw (c .before .before .before .before .before .before .op4 .given .1) (ran _ (Op.Set x v) _ _ _ _ (c .before .before .before .set .result) _ (c .reported4 .ensures) (rw (toZ-ofZ w32 v (record { sfits = c .before .before .before .before .before .known-told4 .given .1 .0 .1 })) at (c .before .before .before .set .ensures), refl))
-
-same-length-6 : tie.Need-same-length-6
-same-length-6 c = search needs
-
-returns-5 : tie.Need-returns-5
-returns-5 c = rw (c .before .before .before .enum-told .given .1) (ran _ Op.Here _ _ _ _ (c .before .here .result) _ (c .reported5 .ensures) (c .before .here .ensures, refl))
-
-same-length-7 : tie.Need-same-length-7
-same-length-7 c = search needs
-
-same-length-8 : tie.Need-same-length-8
-same-length-8 c = search needs
-
-returns-6 : tie.Need-returns-6
-returns-6 c = rw (c .before .before .before .before .before .before .before .before .before .op5 .given .1) (ran _ (Op.Goto _) _ _ _ _ (c .before .before .before .before .before .goto .result) _ (c .reported6 .ensures) (c .before .before .before .before .before .goto .ensures))
-
-same-length-9 : tie.Need-same-length-9
-same-length-9 c = search needs
-
-same-length-10 : tie.Need-same-length-10
-same-length-10 c = search needs
-
-returns-7 : tie.Need-returns-7
-returns-7 c = rw (c .before .before .before .before .before .before .before .before .enum-told2 .given .1) (ran _ Op.Back _ _ _ _ (c .before .before .before .before .before .back .result) _ (c .reported7 .ensures) (c .before .before .before .before .before .back .ensures))
-
-same-length-11 : tie.Need-same-length-11
-same-length-11 c = search needs
-
-returns-8 : tie.Need-returns-8
-returns-8 c = rw (c .before .before .before .before .op6 .given .1) (ran _ (Op.Peek _ _) _ _ _ _ (c .before .peek .result) _ (c .reported8 .ensures) (c .before .peek .ensures, refl))
+returns : tie.Need-returns
+returns c = ran _ _ _ _ _ _ (c .before .before .before .before .before .call .result) _ (c .reported .ensures) (c .before .before .before .before .before .call .ensures)
 
 pub run-spec : {M : Type 1} → statement M
-run-spec =
-    tie.close
-    (tie.spec
-    enum-known-op
-    bind-requires
-    reported-requires
-    enum-known-op-2
-    wind-requires
-    reported-requires-2
-    enum-known-op-3
-    look-requires
-    reported-requires-3
-    enum-known-op-4
-    set-requires
-    reported-requires-4
-    enum-told
-    here-requires
-    reported-requires-5
-    enum-known-op-5
-    goto-requires
-    reported-requires-6
-    enum-told-2
-    back-requires
-    reported-requires-7
-    enum-known-op-6
-    peek-requires
-    reported-requires-8
-    same-length
-    returns
-    same-length-2
-    same-length-3
-    returns-2
-    same-length-4
-    returns-3
-    same-length-5
-    returns-4
-    same-length-6
-    returns-5
-    same-length-7
-    same-length-8
-    returns-6
-    same-length-9
-    same-length-10
-    returns-7
-    same-length-11
-    returns-8)
+run-spec = tie.close (tie.spec call-requires reported-requires same-length same-length-2 returns)
