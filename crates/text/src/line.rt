@@ -194,10 +194,11 @@ fn read_line(s: &[u8]) -> Reading
     let Found::Key(word, n, numbers) = find_key(s) else {
         return Reading::Bad;
     };
+    let operands = &s[n..];
     match numbers {
-        0 => read_fixed(word, &s[n..]),
-        1 => read_one(word, &s[n..]),
-        _ => read_two(word, &s[n..]),
+        0 => read_fixed(word, operands),
+        1 => read_one(word, operands),
+        _ => read_two(word, operands),
     }
 }
 

@@ -17,38 +17,20 @@ enum-told c = search needs
 returns : tie.Need-returns
 returns c = no-word (rw (c .enum-told .given .1) at (c .before .before .find-key .ensures))
 
-sub-read-fixed : tie.Need-sub-read-fixed
-sub-read-fixed c = inside (rw (c .before .before .word .given .1) at (c .before .before .before .before .find-key .ensures))
+sub-operands : tie.Need-sub-operands
+sub-operands c = inside (rw (c .before .word .given .1) at (c .before .before .before .find-key .ensures))
 
-part-read-fixed-start : tie.Need-part-read-fixed-start
-part-read-fixed-start c = inside (rw (c .before .before .word .given .1) at (c .before .before .before .before .find-key .ensures))
+part-operands-start : tie.Need-part-operands-start
+part-operands-start c = inside (rw (c .before .word .given .1) at (c .before .before .before .find-key .ensures))
 
-part-read-fixed-end : tie.Need-part-read-fixed-end
-part-read-fixed-end c = search needs
+part-operands-end : tie.Need-part-operands-end
+part-operands-end c = search needs
 
 read-fixed-requires : tie.Need-read-fixed-requires
 read-fixed-requires c κs = search needs
 
-sub-read-one : tie.Need-sub-read-one
-sub-read-one c = inside (rw (c .before .before .word .given .1) at (c .before .before .before .before .find-key .ensures))
-
-part-read-one-start : tie.Need-part-read-one-start
-part-read-one-start c = inside (rw (c .before .before .word .given .1) at (c .before .before .before .before .find-key .ensures))
-
-part-read-one-end : tie.Need-part-read-one-end
-part-read-one-end c = search needs
-
 read-one-requires : tie.Need-read-one-requires
 read-one-requires c κs = search needs
-
-sub-read-two : tie.Need-sub-read-two
-sub-read-two c = inside (rw (c .before .before .word .given .1) at (c .before .before .before .before .find-key .ensures))
-
-part-read-two-start : tie.Need-part-read-two-start
-part-read-two-start c = inside (rw (c .before .before .word .given .1) at (c .before .before .before .before .find-key .ensures))
-
-part-read-two-end : tie.Need-part-read-two-end
-part-read-two-end c = search needs
 
 read-two-requires : tie.Need-read-two-requires
 read-two-requires c κs = search needs
@@ -56,17 +38,17 @@ read-two-requires c κs = search needs
 returns-2 : tie.Need-returns-2
 returns-2 c =
     let f = rw (c .before .before .before .before .word .given .1) at (c .before .before .before .before .before .before .find-key .ensures) in
-    by-word f (rw (sym (f .entry .1) ∙ c .before .before .match2 .keys1) (c .read-fixed .ensures))
+    by-word f (rw (sym (f .entry .1) ∙ c .before .match2 .keys1) (c .read-fixed .ensures))
 
 returns-3 : tie.Need-returns-3
 returns-3 c =
     let f = rw (c .before .before .before .before .word .given .1) at (c .before .before .before .before .before .before .find-key .ensures) in
-    by-word f (rw (sym (f .entry .1) ∙ c .before .before .match2 .keys2) (c .read-one .ensures))
+    by-word f (rw (sym (f .entry .1) ∙ c .before .match2 .keys2) (c .read-one .ensures))
 
 returns-4 : tie.Need-returns-4
 returns-4 c =
     let f = rw (c .before .before .before .before .word .given .1) at (c .before .before .before .before .before .before .find-key .ensures) in
-    by-word f (rw (two-left _ (λ e. c .before .before .match2 .rest .0 .1 (f .entry .1 ∙ e)) (λ e. c .before .before .match2 .rest .1 (f .entry .1 ∙ e))) (c .read-two .ensures))
+    by-word f (rw (two-left _ (λ e. c .before .match2 .rest .0 .1 (f .entry .1 ∙ e)) (λ e. c .before .match2 .rest .1 (f .entry .1 ∙ e))) (c .read-two .ensures))
 
 pub read-line-spec : {M : Type 1} → statement M
 read-line-spec =
@@ -76,17 +58,11 @@ read-line-spec =
     enum-known-word
     enum-told
     returns
-    sub-read-fixed
-    part-read-fixed-start
-    part-read-fixed-end
+    sub-operands
+    part-operands-start
+    part-operands-end
     read-fixed-requires
-    sub-read-one
-    part-read-one-start
-    part-read-one-end
     read-one-requires
-    sub-read-two
-    part-read-two-start
-    part-read-two-end
     read-two-requires
     returns-2
     returns-3
