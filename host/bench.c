@@ -21,26 +21,35 @@ struct face {
     kn_answer (*peek)(const uint8_t *, size_t, uint32_t, uint32_t);
     kn_answer (*set)(uint8_t *, size_t, uint32_t, int32_t);
     kn_answer (*here)(const uint8_t *, size_t);
+    kn_answer (*far)(const uint8_t *, size_t, uint32_t, uint32_t);
     kn_answer (*go)(uint8_t *, size_t, uint8_t *, size_t, uint32_t);
     kn_answer (*back)(uint8_t *, size_t, uint8_t *, size_t);
 };
 
 #define FACE(prefix)                                                      \
     { prefix##_open, prefix##_bind, prefix##_wind, prefix##_look,         \
-      prefix##_peek, prefix##_set,  prefix##_here, prefix##_goto,         \
-      prefix##_back }
+      prefix##_peek, prefix##_set,  prefix##_here, prefix##_far,          \
+      prefix##_goto, prefix##_back }
 
 static const struct face library = FACE(kn);
 
 struct rival { const char *name; struct face face; };
 
 /* Goto and back have three: the recursive walk as it is compiled, the walk by
-   loops, and the recursive walk with every call kept a call. */
-enum { PLAIN, RECURSIVE, LOOPS, KEPT, RIVALS };
+   loops, and the recursive walk with every call kept a call. Every call that
+   checks has one more, whose check climbs from the focus. */
+enum { PLAIN, RECURSIVE, LOOPS, KEPT, CLIMBS, RIVALS };
 
 static const struct rival rivals[RIVALS] = {
     { "", FACE(pl) }, { ", recursive", FACE(pl) }, { ", loops", FACE(loop) },
-    { ", calls kept", FACE(kept) }
+    { ", calls kept", FACE(kept) }, { ", check climbs", FACE(climb) }
+};
+
+/* Which of them a call is timed beside. */
+enum {
+    OPENS = 1 << PLAIN,
+    CHECKS = 1 << PLAIN | 1 << CLIMBS,
+    SWITCHES = 1 << RECURSIVE | 1 << LOOPS | 1 << KEPT | 1 << CLIMBS
 };
 
 /* ---- What is timed: one call on a store, which ends as it began ---- */
@@ -48,7 +57,7 @@ static const struct rival rivals[RIVALS] = {
 struct job {
     struct shape s;
     unsigned nodes, made, focus;
-    unsigned other; /* where goto goes and peek asks */
+    unsigned other; /* where goto goes, and peek and far ask */
     unsigned x;     /* what look, peek and set ask for */
 };
 
@@ -157,6 +166,15 @@ static uint64_t run_here(const struct face *f, struct job *j, unsigned times)
     return total;
 }
 
+static uint64_t run_far(const struct face *f, struct job *j, unsigned times)
+{
+    uint64_t total = 0;
+
+    while (times-- > 0)
+        total = sum(total, f->far(j->s.store, j->s.len, j->focus, j->other));
+    return total;
+}
+
 /* There and back again; times is even. */
 static uint64_t run_goto(const struct face *f, struct job *j, unsigned times)
 {
@@ -255,101 +273,135 @@ static struct result measure(run r, const struct face *rival, struct job *j)
 
 struct kind {
     const char *name;
-    void (*make)(struct shape *, unsigned nodes, unsigned made);
-    unsigned far; /* from the end of the room: a place far from the last */
+    unsigned (*make)(struct shape *, unsigned nodes, unsigned made);
 };
 
 static const struct kind kinds[] = {
-    { "chain", shape_chain, 0 }, { "bushy", shape_bushy, 2 }, { "empty", shape_empty, 0 }
+    { "chain", shape_chain }, { "fork", shape_fork }, { "bushy", shape_bushy },
+    { "empty", shape_empty }
 };
 
 /* A variable that is bound near the end of the chain, and one that nobody
    binds. */
 enum { NEAR = 5, NOBODY = SHAPE_UNBOUND_BY_NODES };
 
+/* Focus and other place: the last node and one far from it; the other way
+   round; or the last node and its parent. */
+enum places { LAST, FLIPPED, NEXT };
+
 struct row {
     const char *name;
     run run;
-    unsigned rival;
+    unsigned beside;
     unsigned x;
     unsigned room; /* environments not made */
-    int flipped;   /* focus and the other place exchanged */
+    enum places places;
 };
 
 static const struct row rows[] = {
-    { "open", run_open, PLAIN, 0, 0, 0 },
-    { "bind", run_bind, PLAIN, 0, 1, 0 },
-    { "wind", run_wind, PLAIN, 0, 1, 0 },
-    { "look", run_look, PLAIN, NEAR, 0, 0 },
-    { "look, nobody binds", run_look, PLAIN, NOBODY, 0, 0 },
-    { "peek in", run_peek, PLAIN, NOBODY, 0, 0 },
-    { "peek out", run_peek, PLAIN, NOBODY, 0, 1 },
-    { "set", run_set, PLAIN, NEAR, 0, 0 },
-    { "here", run_here, PLAIN, 0, 0, 0 },
-    { "goto", run_goto, RECURSIVE, 0, 0, 0 },
-    { "goto", run_goto, LOOPS, 0, 0, 0 },
-    { "goto", run_goto, KEPT, 0, 0, 0 },
-    { "back", run_back, RECURSIVE, 0, 0, 0 },
-    { "back", run_back, LOOPS, 0, 0, 0 },
-    { "back", run_back, KEPT, 0, 0, 0 }
+    { "open", run_open, OPENS, 0, 0, LAST },
+    { "bind", run_bind, CHECKS, 0, 1, LAST },
+    { "wind", run_wind, CHECKS, 0, 1, LAST },
+    { "look", run_look, CHECKS, NEAR, 0, LAST },
+    { "look, nobody binds", run_look, CHECKS, NOBODY, 0, LAST },
+    { "peek in", run_peek, CHECKS, NOBODY, 0, LAST },
+    { "peek out", run_peek, CHECKS, NOBODY, 0, FLIPPED },
+    { "set", run_set, CHECKS, NEAR, 0, LAST },
+    { "here", run_here, CHECKS, 0, 0, LAST },
+    { "far", run_far, CHECKS, 0, 0, LAST },
+    { "far, parent", run_far, CHECKS, 0, 0, NEXT },
+    { "goto", run_goto, SWITCHES, 0, 0, LAST },
+    { "back", run_back, SWITCHES, 0, 0, LAST }
 };
 
 enum { KINDS = sizeof kinds / sizeof kinds[0], ROWS = sizeof rows / sizeof rows[0] };
-enum { NAME_WIDTH = 18 };
+enum { NAME_WIDTH = 32 };
+
+static unsigned focus_of(const struct shape *s)
+{
+    return (unsigned)kn_here(s->store, s->len).out;
+}
+
+/* The top's is the top. */
+static unsigned focus_parent(struct shape *s)
+{
+    unsigned focus = focus_of(s), parent;
+
+    kn_back(s->store, s->len, s->trace, sizeof s->trace);
+    parent = focus_of(s);
+    shape_focus(s, focus);
+    return parent;
+}
 
 static void prepare(struct job *j, const struct kind *kind, const struct row *row,
                     unsigned nodes)
 {
-    unsigned last;
+    unsigned away = kind->make(&j->s, nodes, nodes - row->room);
+    unsigned last = focus_of(&j->s);
 
-    kind->make(&j->s, nodes, nodes - row->room);
-    last = (unsigned)kn_here(j->s.store, j->s.len).out;
     j->nodes = nodes;
     j->made = last + 1;
     j->focus = last;
-    j->other = kind->far == 0 ? 0 : nodes - kind->far;
+    j->other = row->places == NEXT ? focus_parent(&j->s) : away;
     j->x = row->x;
-    if (row->flipped) {
-        shape_focus(&j->s, j->other);
-        j->focus = j->other;
+    if (row->places == FLIPPED) {
+        shape_focus(&j->s, away);
+        j->focus = away;
         j->other = last;
     }
 }
 
-static double line(const struct kind *kind, const struct row *row, unsigned nodes)
+static double line(const struct kind *kind, const struct row *row,
+                   const struct rival *rival, unsigned nodes)
 {
     static struct job job;
     struct result r;
 
     prepare(&job, kind, row, nodes);
-    r = measure(row->run, &rivals[row->rival].face, &job);
+    r = measure(row->run, &rival->face, &job);
     printf("%-6s %s%-*s %5u %11.0f %9.0f %6.2f\n", kind->name, row->name,
-           (int)(NAME_WIDTH - strlen(row->name)), rivals[row->rival].name, nodes,
+           (int)(NAME_WIDTH - strlen(row->name)), rival->name, nodes,
            r.library_ns, r.rival_ns, r.ratio);
     return r.ratio;
 }
 
-static void every_call(const struct kind *kind)
+/* Every call beside this rival; the worst ratio. */
+static double beside(const struct kind *kind, unsigned rival)
 {
-    double worst[RIVALS] = { 0 };
+    double worst = 0;
     unsigned r;
 
-    for (r = 0; r < ROWS; r++) {
-        double ratio = line(kind, &rows[r], KN_MAX_NODES);
-        if (ratio > worst[rows[r].rival])
-            worst[rows[r].rival] = ratio;
-    }
+    for (r = 0; r < ROWS; r++)
+        if (rows[r].beside >> rival & 1) {
+            double ratio = line(kind, &rows[r], &rivals[rival], KN_MAX_NODES);
+            if (ratio > worst)
+                worst = ratio;
+        }
+    return worst;
+}
+
+static void every_call(const struct kind *kind)
+{
+    double worst[RIVALS];
+    unsigned r;
+
+    for (r = 0; r < RIVALS; r++)
+        worst[r] = beside(kind, r);
     for (r = 0; r < RIVALS; r++)
         printf("worst ratio, %s%s: %.2f\n", kind->name, rivals[r].name, worst[r]);
 }
 
+/* Each call beside its first rival. */
 static void growth(void)
 {
-    unsigned r, nodes;
+    unsigned r, nodes, rival;
 
-    for (r = 0; r < ROWS; r++)
+    for (r = 0; r < ROWS; r++) {
+        for (rival = 0; !(rows[r].beside >> rival & 1);)
+            rival++;
         for (nodes = KN_MAX_NODES / 4; nodes <= KN_MAX_NODES; nodes *= 2)
-            line(&kinds[0], &rows[r], nodes);
+            line(&kinds[0], &rows[r], &rivals[rival], nodes);
+    }
 }
 
 int main(int argc, char **argv)
@@ -357,7 +409,7 @@ int main(int argc, char **argv)
     unsigned k;
 
     (void)argv;
-    puts("store  call                   N  library ns  plain ns  ratio");
+    printf("store  %-*s     N  library ns  plain ns  ratio\n", NAME_WIDTH, "call");
     if (argc > 1)
         growth();
     for (k = 0; argc == 1 && k < KINDS; k++)

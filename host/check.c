@@ -184,7 +184,7 @@ int lent_same(const struct lent *l)
 /* ---- Calls ---- */
 
 const char *const call_name[CALL_KINDS] = {
-    "bind", "wind", "look", "set", "here", "goto", "back", "peek"
+    "bind", "wind", "look", "set", "here", "goto", "back", "peek", "far"
 };
 
 /* A number around a limit: mostly below it, at times the limit or far off. */
@@ -210,6 +210,7 @@ struct call chance_call(const struct model *m)
     c.v = chance_value();
     c.p = chance_thunk();
     c.q = chance_thunk();
+    c.b = chance_near(m->made);
     return c;
 }
 
@@ -226,7 +227,8 @@ kn_answer run_call(const struct call *c)
     case HERE: return kn_here(s, n);
     case GOTO: return kn_goto(s, n, t, k, c->a);
     case BACK: return kn_back(s, n, t, k);
-    default: return kn_peek(s, n, c->a, c->x);
+    case PEEK: return kn_peek(s, n, c->a, c->x);
+    default: return kn_far(s, n, c->a, c->b);
     }
 }
 
@@ -255,6 +257,16 @@ void refuses(const struct call *c, uint32_t code)
     lent_keep(&trace);
     check_answer(run_call(c), refused(code), call_name[c->kind]);
     check(lent_same(&store) && lent_same(&trace), "a refusal changed a byte");
+}
+
+void all_refuse(struct call c)
+{
+    unsigned kind;
+
+    for (kind = 0; kind < CALL_KINDS; kind++) {
+        c.kind = (enum call_kind)kind;
+        refuses(&c, KN_DAMAGED);
+    }
 }
 
 kn_answer open_beside(struct model *m, uint32_t vars, uint32_t nodes,

@@ -65,6 +65,9 @@ kn_answer beside(struct model *m, const struct call *c);
 /* The call on the library is refused with this code and changes no byte. */
 void refuses(const struct call *c, uint32_t code);
 
+/* So is each call with these arguments, whatever its kind, as damaged. */
+void all_refuse(struct call c);
+
 /* Opens the lent store: the library beside the model. */
 kn_answer open_beside(struct model *m, uint32_t vars, uint32_t nodes,
                       const uint8_t *tops, size_t tops_len);

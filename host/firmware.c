@@ -49,11 +49,15 @@ static void switch_to(uint32_t place)
     must(kn_goto(store, sizeof store, trace, sizeof trace, place));
 }
 
+/* A line of the log tells how deep the board is in its scripts. */
 static void turn(unsigned times)
 {
+    uint32_t place = (uint32_t)must(kn_here(store, sizeof store));
+
     while (times-- > 0)
         turns += must(kn_look(store, sizeof store, DIRECTION));
-    printf("turns=%d\n", turns);
+    printf("turns=%d depth=%d\n", turns,
+           (int)must(kn_far(store, sizeof store, place, TOP_PLACE)));
 }
 
 int main(void)

@@ -60,9 +60,14 @@ static void path_from(const struct model *m, unsigned a, struct path *p)
 
 /* ---- Soundness, clause by clause ---- */
 
+static size_t size_of(uint32_t vars, uint32_t nodes)
+{
+    return 8 + 5 * (size_t)vars + 14 * (size_t)nodes;
+}
+
 static size_t place_of_node(const uint8_t *b, unsigned n)
 {
-    return 8 + 5 * (size_t)number(b, 0, 2) + 12 * (size_t)n;
+    return size_of(number(b, 0, 2), n);
 }
 
 static int zero(const uint8_t *b, size_t from, size_t to)
@@ -84,7 +89,7 @@ static int header_good(const uint8_t *b, size_t len)
     made = number(b, 4, 2);
     focus = number(b, 6, 2);
     return 1 <= vars && vars <= 256 && 1 <= nodes && nodes <= 2048
-           && 8 + 5 * vars + 12 * nodes <= len
+           && size_of(vars, nodes) <= len
            && 1 <= made && made <= nodes && focus < made;
 }
 
@@ -111,10 +116,21 @@ static int wind_good(const uint8_t *node)
     return node[1] == 0 && zero(node, 8, 12);
 }
 
-static int made_node_good(const uint8_t *node, unsigned n, unsigned vars)
+static unsigned depth_in(const uint8_t *b, unsigned n)
 {
-    if (number(node, 2, 2) >= n)
-        return 0;
+    return number(b, place_of_node(b, n) + 12, 2);
+}
+
+/* The parent is below n, and n one deeper. */
+static int parent_good(const uint8_t *b, unsigned n)
+{
+    unsigned parent = number(b, place_of_node(b, n) + 2, 2);
+
+    return parent < n && depth_in(b, n) == depth_in(b, parent) + 1;
+}
+
+static int made_node_good(const uint8_t *node, unsigned vars)
+{
     switch (node[0]) {
     case 2: case 3: return binding_good(node, vars);
     case 4: case 5: return wind_good(node);
@@ -127,10 +143,11 @@ static int nodes_good(const uint8_t *b)
     unsigned n, made = number(b, 4, 2), nodes = number(b, 2, 2);
     size_t top = place_of_node(b, 0);
 
-    if (b[top] != 1 || !zero(b, top + 1, top + 12))
+    if (b[top] != 1 || !zero(b, top + 1, top + 14))
         return 0;
     for (n = 1; n < made; n++)
-        if (!made_node_good(b + place_of_node(b, n), n, number(b, 0, 2)))
+        if (!parent_good(b, n)
+            || !made_node_good(b + place_of_node(b, n), number(b, 0, 2)))
             return 0;
     return zero(b, place_of_node(b, made), place_of_node(b, nodes));
 }
@@ -251,6 +268,13 @@ static void write_node(const struct model *m, uint8_t *to, unsigned n, int in)
                 in ? model_value_at(m, from->parent, from->var) : from->own);
 }
 
+/* One more than the parent's, which is written before it. */
+static void write_depth(const struct model *m, uint8_t *bytes, unsigned n)
+{
+    spell(bytes, place_of_node(bytes, n) + 12, 2,
+          depth_in(bytes, m->node[n].parent) + 1);
+}
+
 void model_write(const struct model *m, uint8_t *bytes)
 {
     struct path in;
@@ -264,14 +288,30 @@ void model_write(const struct model *m, uint8_t *bytes)
         uint8_t *cell = bytes + 8 + 5 * (size_t)x;
         write_value(cell, cell + 1, model_value_at(m, m->focus, x));
     }
-    memset(bytes + place_of_node(bytes, 0), 0, 12 * (size_t)m->nodes);
+    memset(bytes + place_of_node(bytes, 0), 0, 14 * (size_t)m->nodes);
     bytes[place_of_node(bytes, 0)] = 1;
     path_from(m, m->focus, &in);
-    for (n = 1; n < m->made; n++)
+    for (n = 1; n < m->made; n++) {
         write_node(m, bytes + place_of_node(bytes, n), n, in.has[n]);
+        write_depth(m, bytes, n);
+    }
 }
 
-/* ---- A switch: the nodes on one path and not on the other ---- */
+/* ---- The nodes on one path and not on the other ---- */
+
+static unsigned how_far(const struct model *m, unsigned a, unsigned b)
+{
+    struct path from_a, from_b;
+    unsigned n, count = 0;
+
+    path_from(m, a, &from_a);
+    path_from(m, b, &from_b);
+    for (n = 1; n < m->made; n++)
+        count += from_a.has[n] != from_b.has[n];
+    return count;
+}
+
+/* ---- A switch leaves and enters them ---- */
 
 /* Where a wind's thunks are to run: both where the wind was made. */
 static unsigned place_of_thunks(const struct model *m, unsigned wind)
@@ -331,7 +371,12 @@ static int takes_variable(enum call_kind k)
     return k == BIND || k == LOOK || k == SET || k == PEEK;
 }
 
-static int takes_environment(enum call_kind k) { return k == GOTO || k == PEEK; }
+static int takes_environment(enum call_kind k)
+{
+    return k == GOTO || k == PEEK || k == FAR;
+}
+
+static int takes_two(enum call_kind k) { return k == FAR; }
 static int wants_value(enum call_kind k) { return k == LOOK || k == SET || k == PEEK; }
 static int makes(enum call_kind k) { return k == BIND || k == WIND; }
 
@@ -342,6 +387,8 @@ static uint32_t refusal(const struct model *m, const struct call *c,
     if (takes_variable(c->kind) && c->x >= m->vars)
         return KN_NO_VARIABLE;
     if (takes_environment(c->kind) && c->a >= m->made)
+        return KN_NO_ENVIRONMENT;
+    if (takes_two(c->kind) && c->b >= m->made)
         return KN_NO_ENVIRONMENT;
     if (wants_value(c->kind)
         && !model_value_at(m, c->kind == PEEK ? c->a : m->focus, c->x).bound)
@@ -409,6 +456,7 @@ kn_answer model_call(struct model *m, const struct call *c, size_t trace_len,
     switch (c->kind) {
     case LOOK: return value_answer(m, m->focus, c->x);
     case PEEK: return value_answer(m, c->a, c->x);
+    case FAR: return answer(KN_DONE, (int32_t)how_far(m, c->a, c->b), 0, 0);
     case SET: set_value(m, c->x, c->v); break;
     case BIND: case WIND: make_node(m, c); break;
     default: m->focus = to;
@@ -423,7 +471,7 @@ kn_answer model_open(struct model *m, uint32_t vars, uint32_t nodes,
 
     if (vars < 1 || vars > 256 || nodes < 1 || nodes > 2048
         || tops_len != 5 * (size_t)vars || !cells_good(tops, vars)
-        || store_len < 8 + 5 * (size_t)vars + 12 * (size_t)nodes)
+        || store_len < size_of(vars, nodes))
         return answer(KN_SETUP, 0, 0, 0);
     m->vars = vars;
     m->nodes = nodes;

@@ -23,11 +23,13 @@ struct model {
 };
 
 /* One call but open. Each call reads the arguments that it has. */
-enum call_kind { BIND, WIND, LOOK, SET, HERE, GOTO, BACK, PEEK, CALL_KINDS };
+enum call_kind {
+    BIND, WIND, LOOK, SET, HERE, GOTO, BACK, PEEK, FAR, CALL_KINDS
+};
 
 struct call {
     enum call_kind kind;
-    uint32_t x, a;
+    uint32_t x, a, b;
     int32_t v;
     uint16_t p, q;
 };

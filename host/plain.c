@@ -1,6 +1,7 @@
 /* plain.c: the contract of kestrelnib.h in plain C, the rival in the bench.
-   Same layout, the full soundness check on every call, the recursive walk; with
-   PLAIN_LOOP a walk by loops, which notes the path that it is to enter. */
+   Same layout, the full soundness check on every call, the recursive walk. With
+   PLAIN_LOOP a walk by loops, which notes the path that it is to enter; with
+   PLAIN_CLIMB a check that climbs from the focus. */
 #include "plain.h"
 
 #include <string.h>
@@ -33,11 +34,12 @@ static void put32(uint8_t *p, uint32_t v)
 }
 
 /* A node: kind, state, parent (2), variable or prelude (2), postlude (2),
-   value (4). A cell: state, value (4). */
+   value (4), depth (2). A cell: state, value (4). */
 static unsigned parent_of(const uint8_t *node) { return get16(node + 2); }
 static unsigned name_of(const uint8_t *node) { return get16(node + 4); }
 static unsigned postlude_of(const uint8_t *node) { return get16(node + 6); }
 static uint32_t value_of(const uint8_t *node) { return get32(node + 8); }
+static unsigned depth_of(const uint8_t *node) { return get16(node + 12); }
 
 static int is_binding(unsigned kind)
 {
@@ -142,9 +144,28 @@ static int cells_sound(const uint8_t *cell, unsigned vars)
     return 1;
 }
 
-static int node_sound(const uint8_t *node, unsigned number, unsigned vars)
+#ifdef PLAIN_CLIMB
+enum { CLIMB = 1 };
+#else
+enum { CLIMB = 0 };
+#endif
+
+/* A node that is in has a parent that is in or the top. */
+static int modes_agree(const uint8_t *node, const uint8_t *parent)
 {
+    return !is_in(node[0]) || !is_out(parent[0]);
+}
+
+static int node_sound(const uint8_t *nodes, const uint8_t *node,
+                      unsigned number, unsigned vars)
+{
+    const uint8_t *parent;
+
     if (parent_of(node) >= number)
+        return 0;
+    parent = nodes + (size_t)parent_of(node) * KN_NODE_BYTES;
+    if (depth_of(node) != depth_of(parent) + 1
+        || !(CLIMB || modes_agree(node, parent)))
         return 0;
     if (is_binding(node[0]))
         return name_of(node) < vars && postlude_of(node) == 0
@@ -154,7 +175,7 @@ static int node_sound(const uint8_t *node, unsigned number, unsigned vars)
 
 /* The in nodes are the path from the focus: all of it is in, and it is as
    long as there are in nodes. */
-static int path_sound(const uint8_t *nodes, unsigned focus, unsigned in)
+static int path_climbed(const uint8_t *nodes, unsigned focus, unsigned in)
 {
     const uint8_t *node;
 
@@ -164,6 +185,15 @@ static int path_sound(const uint8_t *nodes, unsigned focus, unsigned in)
             return 0;
     }
     return in == 0;
+}
+
+/* The same without the climb: where modes agree all of the path is in if the
+   focus is, and it is as long as the focus is deep. */
+static int path_counted(const uint8_t *nodes, unsigned focus, unsigned in)
+{
+    const uint8_t *node = nodes + (size_t)focus * KN_NODE_BYTES;
+
+    return !is_out(node[0]) && depth_of(node) == in;
 }
 
 static int nodes_sound(const uint8_t *nodes, unsigned vars, unsigned made,
@@ -176,11 +206,12 @@ static int nodes_sound(const uint8_t *nodes, unsigned vars, unsigned made,
         return 0;
     for (n = 1; n < made; n++) {
         node += KN_NODE_BYTES;
-        if (!node_sound(node, n, vars))
+        if (!node_sound(nodes, node, n, vars))
             return 0;
         in += is_in(node[0]);
     }
-    return path_sound(nodes, focus, in);
+    return CLIMB ? path_climbed(nodes, focus, in)
+                 : path_counted(nodes, focus, in);
 }
 
 static int sound(const uint8_t *store, size_t len)
@@ -371,6 +402,7 @@ static uint8_t *make(uint8_t *store, unsigned kind)
 
     node[0] = (uint8_t)kind;
     put16(node + 2, focus_of(store));
+    put16(node + 12, depth_of(store + node_at(store, focus_of(store))) + 1);
     put16(store + 4, n + 1);
     put16(store + 6, n);
     return node;
@@ -463,6 +495,50 @@ kn_answer pl_here(const uint8_t *store, size_t store_len)
     if (!sound(store, store_len))
         return refuse(KN_DAMAGED);
     return done(focus_of(store), 0, 0);
+}
+
+/* Up from n, which is so deep, until it is only so deep. */
+static unsigned climb_by_depth(const uint8_t *nodes, unsigned n, unsigned deep,
+                               unsigned only)
+{
+    for (; deep > only; deep--)
+        n = parent_of(nodes + (size_t)n * KN_NODE_BYTES);
+    return n;
+}
+
+/* Up from a and b, both so deep, until they meet; how deep that is. */
+static unsigned meeting_depth(const uint8_t *nodes, unsigned a, unsigned b,
+                              unsigned deep)
+{
+    for (; a != b; deep--) {
+        a = parent_of(nodes + (size_t)a * KN_NODE_BYTES);
+        b = parent_of(nodes + (size_t)b * KN_NODE_BYTES);
+    }
+    return deep;
+}
+
+/* With one of the two the top, there is nothing to climb for. */
+static unsigned apart(const uint8_t *nodes, unsigned a, unsigned b)
+{
+    unsigned deep_a = depth_of(nodes + (size_t)a * KN_NODE_BYTES);
+    unsigned deep_b = depth_of(nodes + (size_t)b * KN_NODE_BYTES);
+    unsigned level = deep_a < deep_b ? deep_a : deep_b;
+
+    if (level == 0)
+        return deep_a + deep_b;
+    a = climb_by_depth(nodes, a, deep_a, level);
+    b = climb_by_depth(nodes, b, deep_b, level);
+    return deep_a + deep_b - 2 * meeting_depth(nodes, a, b, level);
+}
+
+kn_answer pl_far(const uint8_t *store, size_t store_len,
+                 uint32_t a, uint32_t b)
+{
+    if (!sound(store, store_len))
+        return refuse(KN_DAMAGED);
+    if (a >= made_of(store) || b >= made_of(store))
+        return refuse(KN_NO_ENVIRONMENT);
+    return done(apart(store + nodes_at(store), a, b), 0, 0);
 }
 
 kn_answer pl_goto(uint8_t *store, size_t store_len,

@@ -1,6 +1,6 @@
 /* plain.h: the calls of kestrelnib.h as plain.c gives them, prefix pl_. The
-   bench has two more of it: built with PLAIN_LOOP, prefix loop_, and with every
-   call kept a call, prefix kept_. */
+   bench has three more of it: built with PLAIN_LOOP, prefix loop_, with every
+   call kept a call, prefix kept_, and with PLAIN_CLIMB, prefix climb_. */
 #ifndef PLAIN_H
 #define PLAIN_H
 
@@ -22,6 +22,8 @@
     kn_answer prefix##_set(uint8_t *store, size_t store_len,                \
                            uint32_t x, int32_t v);                          \
     kn_answer prefix##_here(const uint8_t *store, size_t store_len);        \
+    kn_answer prefix##_far(const uint8_t *store, size_t store_len,          \
+                           uint32_t a, uint32_t b);                         \
     kn_answer prefix##_goto(uint8_t *store, size_t store_len,               \
                             uint8_t *trace, size_t trace_len, uint32_t a);  \
     kn_answer prefix##_back(uint8_t *store, size_t store_len,               \
@@ -31,5 +33,6 @@
 PLAIN_CALLS(pl);
 PLAIN_CALLS(loop);
 PLAIN_CALLS(kept);
+PLAIN_CALLS(climb);
 
 #endif

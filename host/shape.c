@@ -13,7 +13,7 @@ static void must(kn_answer r)
 }
 
 /* Only the top is made, whatever made says. */
-void shape_empty(struct shape *s, unsigned nodes, unsigned made)
+unsigned shape_empty(struct shape *s, unsigned nodes, unsigned made)
 {
     uint8_t tops[KN_MAX_VARS * KN_CELL_BYTES] = { 0 };
     unsigned x;
@@ -25,6 +25,7 @@ void shape_empty(struct shape *s, unsigned nodes, unsigned made)
     }
     s->len = KN_SIZE(KN_MAX_VARS, nodes);
     must(kn_open(KN_MAX_VARS, nodes, tops, sizeof tops, s->store, s->len));
+    return 0;
 }
 
 void shape_focus(struct shape *s, unsigned a)
@@ -42,17 +43,18 @@ static void grow(struct shape *s, unsigned n)
                      (int32_t)n));
 }
 
-void shape_chain(struct shape *s, unsigned nodes, unsigned made)
+unsigned shape_chain(struct shape *s, unsigned nodes, unsigned made)
 {
     unsigned n;
 
     shape_empty(s, nodes, 1);
     for (n = 1; n < made; n++)
         grow(s, n);
+    return 0;
 }
 
 /* Every node has two children. */
-void shape_bushy(struct shape *s, unsigned nodes, unsigned made)
+unsigned shape_bushy(struct shape *s, unsigned nodes, unsigned made)
 {
     unsigned n;
 
@@ -61,10 +63,11 @@ void shape_bushy(struct shape *s, unsigned nodes, unsigned made)
         shape_focus(s, (n - 1) / 2);
         grow(s, n);
     }
+    return made - 2;
 }
 
 /* Two chains from the top, each with half of the nodes. */
-void shape_fork(struct shape *s, unsigned nodes, unsigned made)
+unsigned shape_fork(struct shape *s, unsigned nodes, unsigned made)
 {
     unsigned n;
 
@@ -74,4 +77,5 @@ void shape_fork(struct shape *s, unsigned nodes, unsigned made)
             shape_focus(s, 0);
         grow(s, n);
     }
+    return made / 2 - 1;
 }

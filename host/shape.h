@@ -11,13 +11,14 @@ struct shape {
 };
 
 /* All have KN_MAX_VARS variables, each with a top value; no node binds the
-   last one. Every fourth node is a wind. The focus is the last node made. */
+   last one. Every fourth node is a wind. The focus is the last node made; the
+   answer is a place far from it. */
 enum { SHAPE_UNBOUND_BY_NODES = KN_MAX_VARS - 1 };
 
-void shape_empty(struct shape *s, unsigned nodes, unsigned made);
-void shape_chain(struct shape *s, unsigned nodes, unsigned made);
-void shape_bushy(struct shape *s, unsigned nodes, unsigned made);
-void shape_fork(struct shape *s, unsigned nodes, unsigned made);
+unsigned shape_empty(struct shape *s, unsigned nodes, unsigned made);
+unsigned shape_chain(struct shape *s, unsigned nodes, unsigned made);
+unsigned shape_bushy(struct shape *s, unsigned nodes, unsigned made);
+unsigned shape_fork(struct shape *s, unsigned nodes, unsigned made);
 
 /* The focus moved. */
 void shape_focus(struct shape *s, unsigned a);

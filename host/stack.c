@@ -61,6 +61,9 @@ static void call_peek_last(void)
     answer = kn_peek(s.store, s.len, LAST, SHAPE_UNBOUND_BY_NODES);
 }
 
+static void call_far_top(void) { answer = kn_far(s.store, s.len, LAST, 0); }
+static void call_far_across(void) { answer = kn_far(s.store, s.len, LAST, LAST / 2); }
+
 /* ---- The stores they run on ---- */
 
 static void chain(void) { shape_chain(&s, N, N); }
@@ -88,6 +91,8 @@ static const struct row rows[] = {
     { "peek, chain's end from the top", chain_at_top, call_peek_last, 0 },
     { "set", chain, call_set, 0 },
     { "here", chain, call_here, 0 },
+    { "far, from the chain's end to the top", chain, call_far_top, 0 },
+    { "far, across", fork_of_two, call_far_across, 0 },
     { "goto, 2,047 left", chain, call_goto_top, LAST },
     { "goto, 2,047 entered", chain_at_top, call_goto_last, LAST },
     { "goto, half left, half entered", fork_of_two, call_goto_across, LAST },

@@ -10,7 +10,9 @@ enum { VARS = 3, NODES = 8, FIRST_NODE = KN_HEADER_BYTES + VARS * KN_CELL_BYTES 
 #define CELL(x) (KN_HEADER_BYTES + (x) * KN_CELL_BYTES)
 #define NODE(n) (FIRST_NODE + (n) * KN_NODE_BYTES)
 enum { HEAD_VARS = 0, HEAD_NODES = 2, HEAD_MADE = 4, HEAD_FOCUS = 6 };
-enum { KIND = 0, STATE = 1, PARENT = 2, NAME = 4, POSTLUDE = 6, VALUE = 8 };
+enum {
+    KIND = 0, STATE = 1, PARENT = 2, NAME = 4, POSTLUDE = 6, VALUE = 8, DEPTH = 12
+};
 
 /* In: binding 1, wind 2, binding 3, the focus. Out: binding 4, wind 5.
    Blank: 6 and 7. The top values of 1 and 2 are unbound. */
@@ -32,6 +34,11 @@ static void base_store(struct model *m, unsigned vars, unsigned nodes)
     memcpy(m->node + 1, five, sizeof five);
 }
 
+static unsigned get16(unsigned at)
+{
+    return store.bytes[at] + 256u * store.bytes[at + 1];
+}
+
 static void put16(unsigned at, unsigned n)
 {
     store.bytes[at] = (uint8_t)n;
@@ -46,14 +53,10 @@ static void lend(const struct model *m, size_t spare)
 
 static void every_call_refuses(void)
 {
-    struct call c = { BIND, 0, 0, 1, 2, 3 };
-    unsigned kind;
+    static const struct call c = { .v = 1, .p = 2, .q = 3 };
 
     check(!model_sound(store.bytes, store.len), "the model finds it sound");
-    for (kind = 0; kind < CALL_KINDS; kind++) {
-        c.kind = (enum call_kind)kind;
-        refuses(&c, KN_DAMAGED);
-    }
+    all_refuse(c);
 }
 
 /* ---- Clauses that one byte breaks ---- */
@@ -77,7 +80,7 @@ static const struct clause clauses[] = {
     { "node 0 is a binding in", NODE(0), 1, 3 },
     { "node 0 is a wind out", NODE(0), 1, 4 },
     { "node 0 is a wind in", NODE(0), 1, 5 },
-    { "node 0 is not zero otherwise", NODE(0) + 1, 11, 1 },
+    { "node 0 is not zero otherwise", NODE(0) + 1, KN_NODE_BYTES - 1, 1 },
     { "a made wind is blank", NODE(5), 1, 0 },
     { "a made binding is blank", NODE(4), 1, 0 },
     { "a made wind is a top", NODE(5), 1, 1 },
@@ -106,8 +109,8 @@ static const struct clause clauses[] = {
     { "the focus is out", NODE(3), 1, 2 },
     { "a binding on the path is out", NODE(1), 1, 2 },
     { "a wind on the path is out", NODE(2), 1, 4 },
-    { "the first blank node is not zero", NODE(6), 12, 1 },
-    { "the last blank node is not zero", NODE(7), 12, 2 }
+    { "the first blank node is not zero", NODE(6), KN_NODE_BYTES, 1 },
+    { "the last blank node is not zero", NODE(7), KN_NODE_BYTES, 2 }
 };
 
 static void one_byte(const struct clause *c)
@@ -194,32 +197,83 @@ static void made_above_nodes(void)
     every_call_refuses();
 }
 
-static void focus_not_made(const char *name, unsigned focus)
+/* ---- Focus and modes ---- */
+
+/* The modes are those of one focus, and another is said to be it. */
+static void other_focus(const char *name, unsigned focus, unsigned said)
 {
     struct model m;
 
     check_name(name);
     base_store(&m, VARS, NODES);
-    m.focus = 0;
+    m.focus = focus;
     lend(&m, 0);
-    put16(HEAD_FOCUS, focus);
+    put16(HEAD_FOCUS, said);
     every_call_refuses();
 }
 
-/* As many are in as the path is long, but they are others. */
-static void others_are_in(void)
+/* As many are in as the focus is deep, but they are others. */
+static void others_are_in(const char *name, unsigned out)
 {
     struct model m;
 
-    check_name("the focus is out, and a node off the path is in");
+    check_name(name);
     base_store(&m, VARS, NODES);
     lend(&m, 0);
-    store.bytes[NODE(3) + KIND] = 2;
-    store.bytes[NODE(4) + KIND] = 3;
+    store.bytes[NODE(out) + KIND] ^= 1;
+    store.bytes[NODE(4) + KIND] ^= 1;
     every_call_refuses();
 }
 
-/* ---- Nodes that are their own parent, at every number ---- */
+/* ---- Depths ---- */
+
+/* Node n takes each false depth in turn: off by one, by its high byte, or an
+   end of the range. refuse judges the store. */
+static void false_depths(unsigned n, void (*refuse)(void))
+{
+    unsigned at = NODE(n) + DEPTH, good = get16(at), i;
+    unsigned bad[5];
+
+    bad[0] = good - 1;
+    bad[1] = good + 1;
+    bad[2] = good + 256;
+    bad[3] = 0;
+    bad[4] = 65535;
+    for (i = 0; i < 5; i++)
+        if (bad[i] != good) {
+            put16(at, bad[i]);
+            refuse();
+        }
+    put16(at, good);
+}
+
+static void each_depth(void)
+{
+    struct model m;
+    unsigned n;
+
+    check_name("a depth is not the parent's plus 1, the top's not 0, a blank's not 0");
+    base_store(&m, VARS, NODES);
+    lend(&m, 0);
+    for (n = 0; n < NODES; n++)
+        false_depths(n, every_call_refuses);
+}
+
+/* The depths from this node on are shifted. */
+static void depths_from(const char *name, unsigned first, int by)
+{
+    struct model m;
+    unsigned n;
+
+    check_name(name);
+    base_store(&m, VARS, NODES);
+    lend(&m, 0);
+    for (n = first; n < m.made; n++)
+        put16(NODE(n) + DEPTH, get16(NODE(n) + DEPTH) + (unsigned)by);
+    every_call_refuses();
+}
+
+/* ---- Nodes that are their own parent, and false depths, at every number ---- */
 
 enum { LAST = KN_MAX_NODES - 1 };
 
@@ -241,6 +295,43 @@ static void lend_line(struct model *m, unsigned focus)
 static int here_refuses(void)
 {
     return check_answer(kn_here(store.bytes, store.len), refused(KN_DAMAGED), "here");
+}
+
+static void chance_call_refuses(void)
+{
+    struct call c = { .kind = (enum call_kind)chance(CALL_KINDS) };
+
+    refuses(&c, KN_DAMAGED);
+}
+
+/* Each depth is the parent's plus 1, each node that is in has a parent that is
+   in or the top, and as many are in as the focus says that it is deep; but the
+   focus is the top. */
+static void the_top_is_deep(void)
+{
+    static struct model m;
+    unsigned deep, n;
+
+    check_name("the top's depth is as many as are in");
+    for (deep = 1; deep <= LAST; deep *= 2) {
+        lend_line(&m, deep);
+        put16(HEAD_FOCUS, 0);
+        for (n = 0; n <= LAST; n++)
+            put16(NODE(n) + DEPTH, n + deep);
+        every_call_refuses();
+    }
+}
+
+static void every_depth(const char *name, unsigned focus)
+{
+    static struct model m;
+    unsigned n;
+
+    check_name(name);
+    lend_line(&m, focus);
+    for (n = 0; n <= LAST; n++)
+        false_depths(n, chance_call_refuses);
+    check(model_sound(store.bytes, store.len), "sound after");
 }
 
 /* Asked by here first, which moves nothing and climbs from the focus alone.
@@ -294,10 +385,22 @@ void test_clauses(void)
     out_of_range("N is 0", VARS, 0);
     out_of_range("N is 2,049", VARS, KN_MAX_NODES + 1);
     made_above_nodes();
-    others_are_in();
+    others_are_in("the focus is out, and a node off the path is in", 3);
+    others_are_in("the focus's parent is out, and a node off the path is in", 2);
+    others_are_in("the path's first node is out, and a node off the path is in", 1);
+    other_focus("the focus is the top, and nodes are in", 3, 0);
+    other_focus("the focus is in, and so is a node below it", 3, 2);
+    other_focus("the focus is out, as deep as the path that is in", 3, 5);
+    each_depth();
+    depths_from("all depths are one too large, the top's too", 0, 1);
+    depths_from("all depths but the top's are one too large", 1, 1);
+    depths_from("all depths but the top's are one too small", 1, -1);
+    the_top_is_deep();
+    every_depth("each depth off the path is false", 0);
+    every_depth("each depth on the path is false", LAST);
     if (own_parents("each node off the path is its own parent", 0))
         own_parents("each node on the path is its own parent", LAST);
-    focus_not_made("the focus is made", 6);
-    focus_not_made("the focus is N", NODES);
-    focus_not_made("the focus is 65,535", 65535);
+    other_focus("the focus is made", 0, 6);
+    other_focus("the focus is N", 0, NODES);
+    other_focus("the focus is 65,535", 0, 65535);
 }

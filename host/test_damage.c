@@ -10,25 +10,24 @@ enum { DAMAGED_STORES = 1000000, BASES = 6, RANDOM_STORES = 50000 };
 static unsigned long damaged, still_sound;
 static struct model meaning;
 
+static void beside_chance(void)
+{
+    struct call c = chance_call(&meaning);
+
+    beside(&meaning, &c);
+}
+
 /* The lent store, whatever it is: every call refuses, or all is the model's. */
 static void judge(void)
 {
-    struct call c;
-    unsigned kind;
-
     if (model_sound(store.bytes, store.len)) {
         still_sound++;
         model_read(&meaning, store.bytes);
-        c = chance_call(&meaning);
-        beside(&meaning, &c);
+        beside_chance();
         return;
     }
     damaged++;
-    c = chance_call(&meaning);
-    for (kind = 0; kind < CALL_KINDS; kind++) {
-        c.kind = (enum call_kind)kind;
-        refuses(&c, KN_DAMAGED);
-    }
+    all_refuse(chance_call(&meaning));
 }
 
 static void small_store(void)
@@ -50,21 +49,49 @@ static uint8_t *some_node(void)
     return store.bytes + KN_SIZE(meaning.vars, chance(meaning.nodes));
 }
 
-static void change_header(void)
+enum { PARENT = 2, DEPTH = 12 };
+
+static unsigned get16(const uint8_t *field)
 {
-    uint8_t *field = store.bytes + 2 * chance(4);
+    return field[0] + 256u * field[1];
+}
+
+static void put16(uint8_t *field, unsigned n)
+{
+    field[0] = (uint8_t)n;
+    field[1] = (uint8_t)(n >> 8);
+}
+
+/* A field of the header, or a depth. */
+static void change_field(uint8_t *field)
+{
     unsigned to[6];
-    unsigned n;
 
     to[0] = 0;
     to[1] = meaning.made;
     to[2] = meaning.nodes;
-    to[3] = field[0] + 1u;
-    to[4] = field[0] - 1u;
+    to[3] = get16(field) + 1;
+    to[4] = get16(field) - 1;
     to[5] = chance(65536);
-    n = to[chance(6)];
-    field[0] = (uint8_t)n;
-    field[1] = (uint8_t)(n >> 8);
+    put16(field, to[chance(6)]);
+}
+
+/* Another parent, and the depth that goes with it. */
+static void change_parent(void)
+{
+    uint8_t *node = some_node();
+    unsigned parent = chance(meaning.nodes);
+
+    put16(node + PARENT, parent);
+    put16(node + DEPTH,
+          get16(store.bytes + KN_SIZE(meaning.vars, parent) + DEPTH) + 1);
+}
+
+/* Often as many are in as before. */
+static void change_two_modes(void)
+{
+    some_node()[0] ^= 1;
+    some_node()[0] ^= 1;
 }
 
 static void exchange_nodes(void)
@@ -88,14 +115,17 @@ static void shorten(void)
 
 static void damage(void)
 {
-    switch (chance(8)) {
+    switch (chance(11)) {
     case 0: *some_byte() ^= (uint8_t)(1u << chance(8)); break;
     case 1: *some_byte() = (uint8_t)chance(256); break;
     case 2: *some_byte() = (uint8_t)chance(7); break;
     case 3: some_node()[0] = (uint8_t)chance(7); break;
-    case 4: some_node()[2] = (uint8_t)chance(meaning.nodes); break;
-    case 5: change_header(); break;
+    case 4: some_node()[PARENT] = (uint8_t)chance(meaning.nodes); break;
+    case 5: change_field(store.bytes + 2 * chance(4)); break;
     case 6: exchange_nodes(); break;
+    case 7: change_field(some_node() + DEPTH); break;
+    case 8: change_parent(); break;
+    case 9: change_two_modes(); break;
     default: memmove(some_node(), some_node(), KN_NODE_BYTES);
     }
 }
@@ -156,7 +186,7 @@ static void random_bytes(void)
 /* Each byte of a store at the limits, by one call. */
 static void at_the_limits(unsigned made)
 {
-    struct call c = { HERE, 0, 0, 0, 0, 0 };
+    struct call c = { 0 };
     size_t at;
 
     check_name("a store at the limits, damaged byte by byte");

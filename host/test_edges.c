@@ -23,6 +23,7 @@ static kn_answer look(uint32_t x) { return kn_look(store.bytes, store.len, x); }
 static kn_answer peek(uint32_t a, uint32_t x) { return kn_peek(store.bytes, store.len, a, x); }
 static kn_answer set(uint32_t x, int32_t v) { return kn_set(store.bytes, store.len, x, v); }
 static kn_answer here(void) { return kn_here(store.bytes, store.len); }
+static kn_answer far(uint32_t a, uint32_t b) { return kn_far(store.bytes, store.len, a, b); }
 
 static kn_answer wind(uint16_t p, uint16_t q)
 {
@@ -85,12 +86,12 @@ static void case_c(void)
 
 static void case_d(void)
 {
-    check_name("(d) 61 bytes for V=1, N=4 open, 60 don't");
-    check_answer(opened(1, 4, 60), refused(KN_SETUP), "60");
+    check_name("(d) 69 bytes for V=1, N=4 open, 68 don't");
+    check_answer(opened(1, 4, 68), refused(KN_SETUP), "68");
     check(lent_same(&store), "a refused open changes nothing");
-    check_answer(opened(1, 4, 61), done(0, 0, 0), "61");
-    check_answer(here(), done(0, 0, 0), "lent with 61");
-    check_answer(kn_here(store.bytes, 60), refused(KN_DAMAGED), "lent with 60");
+    check_answer(opened(1, 4, 69), done(0, 0, 0), "69");
+    check_answer(here(), done(0, 0, 0), "lent with 69");
+    check_answer(kn_here(store.bytes, 68), refused(KN_DAMAGED), "lent with 68");
 }
 
 static void case_e(void)
@@ -182,9 +183,9 @@ static void case_j(void)
 static void case_k(void)
 {
     check_name("(k) the card");
-    lent_take(&store, 61);
+    lent_take(&store, 69);
     lent_take(&trace, 2 * KN_EVENT_BYTES);
-    check_answer(kn_open(1, 4, one, 5, store.bytes, 61), done(0, 0, 0), "open");
+    check_answer(kn_open(1, 4, one, 5, store.bytes, 69), done(0, 0, 0), "open");
     check_answer(bind(0, -1), done(1, 0, 0), "op 1");
     check_answer(wind(10, 11), done(2, 0, 1), "op 2");
     event_is(0, 1, 10, 1);
@@ -295,6 +296,98 @@ static void thunks_at_their_ends(void)
         event_is(n, KN_ENTERING, ends[n / 2], n);
 }
 
+/* ---- Far ---- */
+
+enum { FAMILY = 7 };
+
+/* A line of 1, 2 and 3 below the top; 4 below 1, and 5 below 4; 6 below the
+   top. The focus is 6. */
+static void lend_family(void)
+{
+    opened(1, 8, KN_SIZE(1, 8));
+    lent_take(&trace, FAMILY * KN_EVENT_BYTES);
+    bind(0, 1);
+    wind(2, 3);
+    bind(0, 3);
+    go(1);
+    bind(0, 4);
+    bind(0, 5);
+    go(0);
+    check_answer(wind(4, 5), done(6, 0, 1), "made");
+    lent_keep(&store);
+    lent_keep(&trace);
+}
+
+static void far_is(uint32_t a, uint32_t b, kn_answer want, const char *what)
+{
+    check_answer(far(a, b), want, what);
+    check(lent_same(&store) && lent_same(&trace), "far changed a byte");
+}
+
+static void far_apart(void)
+{
+    static const struct { uint32_t a, b; int32_t apart; const char *what; } rows[] = {
+        { 0, 0, 0, "the top and itself" },
+        { 6, 6, 0, "the focus and itself" },
+        { 3, 3, 0, "a deep one and itself" },
+        { 1, 0, 1, "a child of the top, and the top" },
+        { 3, 0, 3, "a depth" },
+        { 5, 0, 3, "a depth on the other branch" },
+        { 2, 3, 1, "parent and child" },
+        { 1, 3, 2, "one above the other" },
+        { 2, 4, 2, "siblings" },
+        { 3, 5, 4, "two branches" },
+        { 2, 5, 3, "two branches, one deeper" },
+        { 3, 6, 4, "meeting at the top" }
+    };
+    unsigned focus, i;
+
+    check_name("far: the nodes on one path and not on the other");
+    lend_family();
+    for (focus = 0; focus < FAMILY; focus++) {
+        go(focus);
+        lent_keep(&store);
+        lent_keep(&trace);
+        for (i = 0; i < sizeof rows / sizeof rows[0]; i++) {
+            far_is(rows[i].a, rows[i].b, done(rows[i].apart, 0, 0), rows[i].what);
+            far_is(rows[i].b, rows[i].a, done(rows[i].apart, 0, 0), rows[i].what);
+        }
+    }
+}
+
+static void far_is_gotos_moves(void)
+{
+    uint32_t a, b;
+
+    check_name("far is what goto moves");
+    lend_family();
+    for (a = 0; a < FAMILY; a++)
+        for (b = 0; b < FAMILY; b++) {
+            kn_answer apart = far(a, b);
+            go(a);
+            check_answer(apart, done(go(b).moves, 0, 0), "goto's moves");
+        }
+}
+
+static void far_refused(void)
+{
+    static const uint32_t unmade[] = { FAMILY, 8, 65536, 65536 + 1, 0xffffffffu };
+    unsigned i;
+
+    check_name("far: either number not made is 4");
+    lend_family();
+    far_is(FAMILY - 1, FAMILY - 1, done(0, 0, 0), "made-1 is good");
+    for (i = 0; i < sizeof unmade / sizeof unmade[0]; i++) {
+        far_is(unmade[i], 0, refused(KN_NO_ENVIRONMENT), "a, b the top");
+        far_is(0, unmade[i], refused(KN_NO_ENVIRONMENT), "b, a the top");
+        far_is(unmade[i], 3, refused(KN_NO_ENVIRONMENT), "a");
+        far_is(3, unmade[i], refused(KN_NO_ENVIRONMENT), "b");
+        far_is(unmade[i], unmade[i], refused(KN_NO_ENVIRONMENT), "both");
+        check_answer(kn_far(store.bytes, store.len - 1, unmade[i], unmade[i]),
+                     refused(KN_DAMAGED), "2 before 4");
+    }
+}
+
 /* ---- Open's other edges ---- */
 
 static void no_setup(uint32_t vars, uint32_t nodes, const uint8_t *tops,
@@ -352,6 +445,9 @@ void test_edges(void)
     room_before_moves();
     resumed_postlude();
     thunks_at_their_ends();
+    far_apart();
+    far_is_gotos_moves();
+    far_refused();
     top_cells();
     not_cut_off();
 }

@@ -16,39 +16,38 @@ static kn_answer step(struct call c)
 
 static kn_answer bind(uint32_t x, int32_t v)
 {
-    struct call c = { BIND, 0, 0, 0, 0, 0 };
-    c.x = x;
-    c.v = v;
+    struct call c = { .kind = BIND, .x = x, .v = v };
     return step(c);
 }
 
 static kn_answer wind(uint16_t p, uint16_t q)
 {
-    struct call c = { WIND, 0, 0, 0, 0, 0 };
-    c.p = p;
-    c.q = q;
+    struct call c = { .kind = WIND, .p = p, .q = q };
     return step(c);
 }
 
 static kn_answer go(uint32_t a)
 {
-    struct call c = { GOTO, 0, 0, 0, 0, 0 };
-    c.a = a;
+    struct call c = { .kind = GOTO, .a = a };
     return step(c);
 }
 
 static kn_answer back(void)
 {
-    struct call c = { BACK, 0, 0, 0, 0, 0 };
+    struct call c = { .kind = BACK };
     return step(c);
 }
 
 static void peek(uint32_t a, uint32_t x)
 {
-    struct call c = { PEEK, 0, 0, 0, 0, 0 };
-    c.a = a;
-    c.x = x;
+    struct call c = { .kind = PEEK, .a = a, .x = x };
     step(c);
+}
+
+static kn_answer far(uint32_t a, uint32_t b)
+{
+    struct call c = { .kind = FAR, .a = a, .b = b };
+    return step(c);
 }
 
 /* ---- Random runs ---- */
@@ -160,19 +159,22 @@ static void grow(unsigned count, unsigned wind_every)
     }
 }
 
-static void peeks(void)
+static void asks(void)
 {
     unsigned i;
 
-    for (i = 0; i < 40; i++)
+    for (i = 0; i < 40; i++) {
         peek(chance(KN_MAX_NODES), chance(KN_MAX_VARS));
+        far(chance(KN_MAX_NODES), chance(KN_MAX_NODES));
+    }
 }
 
 /* Both ways with the exact room, and with one event too few. */
 static void both_ways(unsigned events)
 {
+    check_answer(far(0, CHAIN), done(CHAIN, 0, 0), "the deepest");
     check(go(0).events == events, "leaving events");
-    peeks();
+    asks();
     check(go(CHAIN).moves == CHAIN, "all entered");
     lent_take(&trace, events * KN_EVENT_BYTES);
     check(go(0).code == KN_DONE, "leaving with the exact room");
@@ -191,7 +193,7 @@ static void long_chain(const char *name, unsigned wind_every, unsigned events)
     open_at_limits();
     grow(CHAIN, wind_every);
     check(bind(0, 0).code == KN_FULL, "full");
-    peeks();
+    asks();
     both_ways(events);
 }
 
@@ -205,10 +207,11 @@ static void two_branches(void)
     grow(1000, 3);
     go(47);
     grow(1000, 4);
+    check_answer(far(1047, 2047), done(2000, 0, 0), "far across");
     check_answer(go(1047), done(1047, 2000, 334 + 250), "across");
-    peeks();
+    asks();
     check_answer(go(2047), done(2047, 2000, 334 + 250), "and back");
-    peeks();
+    asks();
 }
 
 void test_runs(void)

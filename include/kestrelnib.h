@@ -21,23 +21,24 @@
  *   given. Beside a refusal's code all other numbers are 0, and no byte of
  *   store or trace has changed.
  *
- * Numbers.  vars, nodes, x and a are 32-bit: one that is too large is refused
- *   and never cut off. p and q are 16-bit and every one is good: C converts a
- *   larger number before the call. In store, top cells and trace numbers are
- *   little endian.
+ * Numbers.  vars, nodes, x, a and b are 32-bit: one that is too large is
+ *   refused and never cut off. p and q are 16-bit and every one is good: C
+ *   converts a larger number before the call. In store, top cells and trace
+ *   numbers are little endian.
  *
  * Memory.  KN_SIZE bytes of store, KN_TRACE_SIZE of trace, KN_STACK_SIZE of
  *   stack. Stack by depth: goto and back take 48 bytes for each environment
  *   that they leave or enter, and at most 256 more; any other call takes at
- *   most 256. At the limits 25,864 + 10,235 + 98,512 = 134,611 bytes in all;
+ *   most 256. At the limits 29,960 + 10,235 + 98,512 = 138,707 bytes in all;
  *   one trace and one stack can serve several stores in turn. No call needs
  *   more than 100 KiB of stack. (Measured on x86-64: docs/FIGURES.md.)
  *
  * Time.  Every call but open first reads the whole store; that is how damage
- *   is found. So time grows with vars + nodes: on an x86-64 PC, the 26 KB of
+ *   is found. So time grows with vars + nodes: on an x86-64 PC, the 30 KB of
  *   a store at the limits take about 1 microsecond with only the top made, and
- *   about 12 with 2,047 environments in one line, the focus at its end. Look
- *   and peek then climb to the binding that decides, and goto and back move.
+ *   about 5 with 2,047 environments in one line, the focus at its end. Look
+ *   and peek then climb to the binding that decides, far to where two ways to
+ *   the top meet, and goto and back move.
  *
  * After DAMAGED.  The call changed nothing, and every call will say the same
  *   of these bytes. See first that pointer and length are those of the open.
@@ -82,7 +83,7 @@ enum kn_constant {
     KN_MAX_NODES    = 2048, /* environments, the top counted: 1 to this    */
     KN_HEADER_BYTES = 8,
     KN_CELL_BYTES   = 5,    /* state (0 unbound, 1 value), value (4)       */
-    KN_NODE_BYTES   = 12,
+    KN_NODE_BYTES   = 14,
     KN_EVENT_BYTES  = 5     /* what (1), thunk (2), place (2)              */
 };
 
@@ -107,7 +108,7 @@ enum kn_code {
                               described, or the buffer too short           */
     KN_DAMAGED        = 2, /* any other call: these bytes are no store     */
     KN_NO_VARIABLE    = 3, /* x is not below vars                          */
-    KN_NO_ENVIRONMENT = 4, /* a is not made                                */
+    KN_NO_ENVIRONMENT = 4, /* a or b is not made                           */
     KN_UNBOUND        = 5, /* look, peek or set finds no value             */
     KN_FULL           = 6, /* bind or wind with no environment of room     */
     KN_TRACE_ROOM     = 7, /* more events than the trace has room for      */
@@ -116,7 +117,8 @@ enum kn_code {
 };
 
 typedef struct kn_answer {
-    int32_t  out;    /* look, peek: the value; else an environment's number */
+    int32_t  out;    /* look, peek: the value; far: how far; else an
+                        environment's number                                */
     uint16_t code;
     uint16_t moves;  /* goto, back: environments left and entered           */
     uint16_t events; /* wind, goto, back: events written to the trace       */
@@ -225,6 +227,15 @@ kn_answer kn_set(uint8_t *store, size_t store_len, uint32_t x, int32_t v);
 
 /* Answers the focus. Refusals: DAMAGED. */
 kn_answer kn_here(const uint8_t *store, size_t store_len);
+
+/* Answers how far apart a and b are, with nothing moved: the number of
+   environments on the way from one of the two to the top and not on the
+   other's, the top left out. As many moves would take the focus from the one
+   to the other, and no fewer. Where a is b it is 0; where one of the two is
+   the top it is the other's depth, found without a climb.
+   Refusals: DAMAGED, NO_ENVIRONMENT if either is not made. */
+kn_answer kn_far(const uint8_t *store, size_t store_len,
+                 uint32_t a, uint32_t b);
 
 /* Moves the focus to a by the shortest way and writes an event for each wind
    left or entered. Answers a, the moves and the events.

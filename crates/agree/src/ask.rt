@@ -65,12 +65,13 @@ pub(crate) fn store_open(v: usize, n: usize, tops: &[u8], s: &mut [u8]) -> Says 
     told(store::open(cut32(v), cut32(n), tops, s))
 }
 
-// The calls that change nothing: look, here and peek.
+// The calls that change nothing: look, here, far and peek.
 fn read(what: u8, one: usize, two: usize, s: &[u8]) -> Answer {
     let x = cut32(one);
     match what {
         b'l' => store::look(s, x),
         b'h' => store::here(s),
+        b'f' => store::far(s, x, cut32(two)),
         _ => store::peek(s, x, cut32(two)),
     }
 }
@@ -112,6 +113,7 @@ fn answer(o: Op, m: &[usize; SPACE], notes: &mut [u8]) -> Says {
         b'h' => model::here(m),
         b'g' => model::goto(m, o.one, room, notes),
         b'k' => model::back(m, room, notes),
+        b'f' => model::far(m, o.one, o.two, notes),
         _ => model::peek(m, o.one, o.two),
     }
 }

@@ -45,6 +45,22 @@ pub(crate) const OWN_LOW: usize = 17;
 
 pub(crate) const OWN_HIGH: usize = 18;
 
+pub(crate) const FAR: usize = 19;
+
+pub(crate) const FAR_TOP: usize = 20;
+
+pub(crate) const FAR_SAME: usize = 21;
+
+pub(crate) const FAR_NONE: usize = 22;
+
+pub(crate) const NODE_DEPTH: usize = 23;
+
+pub(crate) const TOP_DEPTH: usize = 24;
+
+pub(crate) const BLANK_DEPTH: usize = 25;
+
+pub(crate) const SHIFTED: usize = 26;
+
 pub(crate) fn count(m: &mut [usize; SPACE], i: usize, n: usize) {
     let c = model::of(m, COUNTED, i);
     model::put(m, COUNTED, i, plus(c, n));

@@ -27,13 +27,13 @@ use layout::Store;
 
 // ---- refused by all
 
-// Here first: it climbs from the focus alone, so that it answers where another call might run on and on.
-const CALLS: [u8; 8] = *b"hbwlsgkp";
+// Here first: it climbs nowhere, so that it answers where another call might run on and on.
+const CALLS: [u8; 9] = *b"hbwlsgkpf";
 
 // Whether the call i refuses with 2.
 fn refuses(i: usize, g: usize, s: &mut [u8], t: &mut [u8]) -> bool {
     let o = Op {
-        what: CALLS[i % 8],
+        what: CALLS[i % 9],
         one: draw::draw(g, 3),
         two: draw::draw(draw::next(g), 3),
         trace: 0,
@@ -46,7 +46,7 @@ fn each_refuses(g: usize, s: &mut [u8]) -> bool {
     let mut t = [0u8; 2 * Store::EVENT];
     let mut i = 0;
     fill(&mut t);
-    while i < 8 {
+    while i < 9 {
         if !refuses(i, g, s, &mut t) {
             return false;
         }
@@ -67,7 +67,7 @@ pub(crate) fn all_refuse(g: usize, at: usize, old: usize, s: &mut [u8]) -> bool 
 
 // ---- a byte changed
 
-fn verdict(refused: bool, sound: bool) -> usize {
+pub(crate) fn verdict(refused: bool, sound: bool) -> usize {
     if !refused {
         return REFUSAL;
     }

@@ -63,20 +63,20 @@ pub(crate) const EDGES: usize = 8;
 pub(crate) const NONE: usize = 9;
 
 // The operations of a kind by their letters, each as often as it stands: Bind, Wind, Look, Set, Here, Goto, bacK, Peek,
-// Damage, Unbind a cell, Open, Cut off. A row for each kind; deep chains grow until the store is full, and then have the last.
-const MENU: usize = 16;
+// Far, Damage, Unbind a cell, Open, Cut off. A row for each kind; deep chains grow until the store is full, and then have the last.
+const MENU: usize = 17;
 
-const MENUS: [u8; MENU * (KINDS + 1)] = *b"bbbbbbbbbwwwwlsp\
-    bbbbwwggggggklsp\
-    bbbbbbssssgggklp\
-    wwwwwwwggggggkkb\
-    bbbwwggggggggglp\
-    bbbbbbwwwwgklsph\
-    bbbwwggsddddddup\
-    bwwwwwggggggggkk\
-    bwglsphkoocckgsb\
-    bblllssspppggkwu\
-    gggggkkkssslpphb";
+const MENUS: [u8; MENU * (KINDS + 1)] = *b"bbbbbbbbbwwwwlspf\
+    bbbbwwggggggklspf\
+    bbbbbbssssgggklpf\
+    wwwwwwwggggggkkbf\
+    bbbwwggggggggglpf\
+    bbbbbbwwwwgklsphf\
+    bbbwwggsddddddupf\
+    bwwwwwggggggggkkf\
+    bwglsphkoocckgsbf\
+    bblllssspppggkwuf\
+    gggggkkkssslpphbf";
 
 // The letter of the next operation.
 pub(crate) fn what(kind: usize, g: usize, m: &[usize; SPACE]) -> u8 {
@@ -115,7 +115,7 @@ fn large_plan(kind: usize, g: usize) -> Plan {
         _ => plus(1, draw(g, 8)),
     };
     let steps = match kind {
-        DEEP | WINDS | FULL => 2_600,
+        DEEP | WINDS | FULL => 2_800,
         _ => 400,
     };
     drawn_plan(kind, next(g), vars, Store::NODES, steps)
@@ -252,6 +252,7 @@ fn numbers(kind: usize, g: usize, m: &[usize; SPACE], what: u8) -> Op {
         b'l' => made_op(what, x, 0),
         b'g' => made_op(what, a, 0),
         b'p' => made_op(what, a, x),
+        b'f' => far_op(g2, a, environment(kind, next(g3), m)),
         _ => made_op(what, thunk(g2), thunk(next(g3))),
     }
 }
@@ -262,6 +263,16 @@ fn made_op(what: u8, one: usize, two: usize) -> Op {
         one,
         two,
         trace: 0,
+    }
+}
+
+// How far a is from itself, from the top either way, or from b.
+fn far_op(g: usize, a: usize, b: usize) -> Op {
+    match draw(g, 8) {
+        0 => made_op(b'f', a, a),
+        1 => made_op(b'f', 0, a),
+        2 => made_op(b'f', a, 0),
+        _ => made_op(b'f', a, b),
     }
 }
 

@@ -7,6 +7,7 @@ use crate::buffer::plus;
 use crate::buffer::poke;
 use crate::buffer::spell32;
 use crate::model::BINDING;
+use crate::model::DEPTH;
 use crate::model::FOCUS;
 use crate::model::GIVEN;
 use crate::model::KIND;
@@ -106,6 +107,7 @@ fn node_part(m: &[usize; SPACE], n: usize, k: usize) -> usize {
         2 | 3 => part(of(m, PARENT, n), k % 2),
         4 | 5 => part(of(m, GIVEN, n), k % 2),
         6 | 7 => part(of(m, POST, n), k % 2),
+        12 | 13 => part(of(m, DEPTH, n), k % 2),
         _ => part(stored(m, n), k % 4),
     }
 }

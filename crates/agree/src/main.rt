@@ -4,6 +4,7 @@ mod ask;
 mod buffer;
 mod compare;
 mod damage;
+mod depths;
 mod draw;
 mod image;
 mod model;

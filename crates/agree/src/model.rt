@@ -10,8 +10,8 @@ use crate::buffer::spell32;
 use layout::Store;
 
 // One array has all numbers that the program keeps, a field after the other. The model: of each environment its kind, parent,
-// variable or prelude, postlude and own value; then the top values; then V, N, made and the focus. After it, what is compared
-// with: a mark for each environment, the newest mark, the counts, and the bytes that were lent.
+// variable or prelude, postlude, own value and depth; then the top values; then V, N, made and the focus. After it, what is
+// compared with: a mark for each environment, the newest mark, the counts, and the bytes that were lent.
 pub(crate) const KIND: usize = 0;
 
 pub(crate) const PARENT: usize = Store::NODES;
@@ -22,9 +22,11 @@ pub(crate) const POST: usize = 3 * Store::NODES;
 
 pub(crate) const OWN: usize = 4 * Store::NODES;
 
-pub(crate) const TOP: usize = 5 * Store::NODES;
+pub(crate) const DEPTH: usize = 5 * Store::NODES;
 
-const HEAD: usize = 5 * Store::NODES + Store::VARS;
+pub(crate) const TOP: usize = 6 * Store::NODES;
+
+const HEAD: usize = 6 * Store::NODES + Store::VARS;
 
 pub(crate) const MARK: usize = HEAD + 4;
 
@@ -32,7 +34,7 @@ pub(crate) const NEWEST: usize = MARK + Store::NODES;
 
 pub(crate) const COUNTED: usize = NEWEST + 1;
 
-pub(crate) const COUNTS: usize = 19;
+pub(crate) const COUNTS: usize = 27;
 
 pub(crate) const LENT: usize = COUNTED + COUNTS;
 
@@ -147,12 +149,15 @@ pub(crate) struct Node {
     pub own: usize,
 }
 
+// It is one deeper than its parent; the top's depth is 0.
 pub(crate) fn put_node(m: &mut [usize; SPACE], n: usize, e: Node) {
+    let above = of(m, DEPTH, e.parent);
     put(m, KIND, n, e.kind);
     put(m, PARENT, n, e.parent);
     put(m, GIVEN, n, e.given);
     put(m, POST, n, e.post);
     put(m, OWN, n, e.own);
+    put(m, DEPTH, n, plus(above, 1));
 }
 
 // ---- values
@@ -317,18 +322,24 @@ fn apart(p: &[usize; Store::NODES], np: usize, q: &[usize; Store::NODES], nq: us
     }
 }
 
-// The answer of a switch to a.
-pub(crate) fn way(m: &[usize; SPACE], a: usize, room: usize, notes: &mut [u8]) -> Says {
+// The answer of a switch from a to b, where there is room for its events.
+fn between(m: &[usize; SPACE], a: usize, b: usize, notes: &mut [u8]) -> Says {
     let mut p = [0usize; Store::NODES];
     let mut q = [0usize; Store::NODES];
-    let np = path(m, head(m, FOCUS), &mut p);
-    let nq = path(m, a, &mut q);
+    let np = path(m, a, &mut p);
+    let nq = path(m, b, &mut q);
     let w = apart(&p, np, &q, nq);
     let events = tell_all(m, &p, &q, w, notes);
-    if room < events {
+    answered(0, b, w.moves, events)
+}
+
+// The answer of a switch to a.
+pub(crate) fn way(m: &[usize; SPACE], a: usize, room: usize, notes: &mut [u8]) -> Says {
+    let r = between(m, head(m, FOCUS), a, notes);
+    if room < r.events {
         return refused(7);
     }
-    answered(0, a, w.moves, events)
+    r
 }
 
 // ---- bytes
@@ -524,4 +535,13 @@ pub(crate) fn back(m: &[usize; SPACE], room: usize, notes: &mut [u8]) -> Says {
         return refused(8);
     }
     way(m, up(m, f), room, notes)
+}
+
+// As many nodes as are on one path and not on the other. What is told on the way is not asked.
+pub(crate) fn far(m: &[usize; SPACE], a: usize, b: usize, notes: &mut [u8]) -> Says {
+    let made = head(m, MADE);
+    if made <= a || made <= b {
+        return refused(4);
+    }
+    done(between(m, a, b, notes).moves)
 }

@@ -4,6 +4,10 @@ use crate::ask;
 use crate::buffer::fill;
 use crate::buffer::holds;
 use crate::buffer::plus;
+use crate::compare::FAR;
+use crate::compare::FAR_NONE;
+use crate::compare::FAR_SAME;
+use crate::compare::FAR_TOP;
 use crate::compare::MANY;
 use crate::compare::SEQUENCES;
 use crate::compare::SIZES;
@@ -14,6 +18,7 @@ use crate::compare::bytes_agree;
 use crate::compare::count;
 use crate::compare::values_agree;
 use crate::damage;
+use crate::depths;
 use crate::draw;
 use crate::draw::Op;
 use crate::draw::Opening;
@@ -21,6 +26,7 @@ use crate::draw::Plan;
 use crate::image;
 use crate::model;
 use crate::model::LARGEST;
+use crate::model::MADE;
 use crate::model::SPACE;
 use crate::model::Says;
 use crate::parents;
@@ -47,13 +53,33 @@ fn traced(loud: bool, o: Op, s: &mut [u8], m: &mut [usize; SPACE], t: &mut [u8])
     trace_found(answers(loud, want, got, m), held)
 }
 
+// Where an operation is counted besides: a far by what its two are; the others where nothing is written.
+fn counted_at(o: Op, m: &[usize; SPACE]) -> usize {
+    let made = model::head(m, MADE);
+    if o.what != b'f' {
+        return 0;
+    }
+    if made <= o.one || made <= o.two {
+        return FAR_NONE;
+    }
+    if o.one == o.two {
+        return FAR_SAME;
+    }
+    if o.one == 0 || o.two == 0 {
+        return FAR_TOP;
+    }
+    FAR
+}
+
 // Most bytes of trace that are lent.
 const LONGEST: usize = Store::EVENT * Store::NODES + 32;
 
 fn operate(loud: bool, o: Op, s: &mut [u8], m: &mut [usize; SPACE]) -> usize {
     let mut t = [0u8; LONGEST];
     let len = o.trace;
+    let i = counted_at(o, m);
     say::operation(loud, o);
+    count(m, i, 1);
     if LONGEST < len {
         return SIZES;
     }
@@ -121,18 +147,19 @@ fn step(loud: bool, kind: usize, g: usize, s: &mut [u8], m: &mut [usize; SPACE])
 // ---- a turn, in parts
 
 // Before a step that goes by the bytes, and at first, the Bytes are compared; then comes the Step; then the Bytes are compared,
-// then the Values, and then nodes are their own Parents. A row for a turn in a larger store, in a small one, for every sixteenth
-// in a larger one, and for the last, which has no step; then the same where the step goes by the bytes, or is the first.
-const PARTS: usize = 4 + parents::WAYS;
+// then the Values; then nodes are their own Parents, and depths are False. A row for a turn in a larger store, in a small one,
+// for every sixteenth in a larger one, and for the last, which has no step; then the same where the step goes by the bytes, or is
+// the first.
+const PARTS: usize = 4 + parents::WAYS + depths::WAYS;
 
-const ACTS: [u8; 8 * PARTS] = *b".s......\
-    .sbv....\
-    .sbvpppp\
-    ..bvpppp\
-    bsb.....\
-    bsbv....\
-    bsbvpppp\
-    b.bvpppp";
+const ACTS: [u8; 8 * PARTS] = *b".s..............\
+    .sbv............\
+    .sbvpppp........\
+    ..bvppppffffffff\
+    bsb.............\
+    bsbv............\
+    bsbvpppp........\
+    b.bvppppffffffff";
 
 // The bytes of a small store, and some more.
 const SMALL: usize = 512;
@@ -176,6 +203,7 @@ fn act(loud: bool, p: Plan, k: usize, g: usize, s: &mut [u8], m: &mut [usize; SP
         b's' => step(loud, p.kind, g, s, m),
         b'v' => values_agree(loud, g, spots(p, k), s, m),
         b'p' => parents::own_parent(loud, g, k % parents::WAYS, s, m),
+        b'f' => depths::false_depths(loud, g, k % depths::WAYS, s, m),
         _ => 0,
     }
 }

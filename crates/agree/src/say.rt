@@ -7,7 +7,7 @@ use libc::STDOUT_FILENO;
 
 // Each row ends in a dot. A, B and C stand for three numbers, V for B as the bits of a value, and / ends a line. There is a row
 // for each count by its number, then for the kinds of sequences, for what is found, for the operations, and the rows below.
-const TEXT: usize = 1123;
+const TEXT: usize = 1425;
 
 const ROWS: [u8; TEXT] = *b".\
     refused with 1=A/.\
@@ -28,6 +28,14 @@ const ROWS: [u8; TEXT] = *b".\
     changed stores still sound=A/.\
     own parents up to 255 refused=A/.\
     own parents above 255 refused=A/.\
+    far between two nodes=A/.\
+    far to or from the top=A/.\
+    far from one to itself=A/.\
+    far to or from one not made=A/.\
+    false depths of nodes refused=A/.\
+    false depths of the top refused=A/.\
+    false depths of blanks refused=A/.\
+    shifted depths refused=A/.\
     deep.\
     bushy.\
     same variable.\
@@ -52,6 +60,7 @@ const ROWS: [u8; TEXT] = *b".\
     goto=A trace bytes=C/.\
     back=1 trace bytes=C/.\
     peek=A,B trace bytes=C/.\
+    far=A,B trace bytes=C/.\
     seed=A kind=.\
     \x20lent after the store=A/vars=B/nodes=C/.\
     model: code=A out=V.\
@@ -64,39 +73,42 @@ const ROWS: [u8; TEXT] = *b".\
     hollow: cell at byte=A/.\
     open: vars=A nodes=B bytes of top cells=C/.\
     here with the first bytes=A/.\
-    its own parent: node=A/.";
+    its own parent: node=A/.\
+    false depths: from node=A before=B plus=C/.";
 
-const KINDS: usize = 19;
+const KINDS: usize = 27;
 
-const FOUND: usize = 28;
+const FOUND: usize = 36;
 
-const OPERATIONS: usize = 35;
+const OPERATIONS: usize = 43;
 
-const SEED: usize = 43;
+const SEED: usize = 52;
 
-const PLAN: usize = 44;
+const PLAN: usize = 53;
 
-const MODEL: usize = 45;
+const MODEL: usize = 54;
 
-const STORE: usize = 46;
+const STORE: usize = 55;
 
-const SEEN: usize = 47;
+const SEEN: usize = 56;
 
-const UNSEEN: usize = 48;
+const UNSEEN: usize = 57;
 
-pub(crate) const BYTE: usize = 49;
+pub(crate) const BYTE: usize = 58;
 
-pub(crate) const VALUE: usize = 50;
+pub(crate) const VALUE: usize = 59;
 
-pub(crate) const DAMAGE: usize = 51;
+pub(crate) const DAMAGE: usize = 60;
 
-pub(crate) const HOLLOW: usize = 52;
+pub(crate) const HOLLOW: usize = 61;
 
-pub(crate) const OPEN: usize = 53;
+pub(crate) const OPEN: usize = 62;
 
-pub(crate) const CUT: usize = 54;
+pub(crate) const CUT: usize = 63;
 
-pub(crate) const PARENT: usize = 55;
+pub(crate) const PARENT: usize = 64;
+
+pub(crate) const DEPTHS: usize = 65;
 
 fn number(n: usize) {
     io::print_decimal(STDOUT_FILENO, n as u64);
@@ -178,12 +190,13 @@ fn which(what: u8) -> usize {
         b'h' => 4,
         b'g' => 5,
         b'k' => 6,
+        b'f' => 8,
         _ => 7,
     }
 }
 
 pub(crate) fn operation(loud: bool, o: Op) {
-    line(loud, OPERATIONS + which(o.what) % 8, o.one, o.two, o.trace);
+    line(loud, OPERATIONS + which(o.what) % 9, o.one, o.two, o.trace);
 }
 
 fn answer(loud: bool, who: usize, a: Says) {

@@ -10,6 +10,7 @@ use lib.IntN.{ℤ, pos}
 use lib.ListN.{length}
 use Rattle.rules.specs.Store.{Deep, home}
 use Rattle.rules.specs.Far.{far}
+use Rattle.rules.specs.Route.{between-far}
 use Rattle.rules.specs.Moves.{moves-tree, Event}
 use Rattle.rules.specs.Refusals.{damaged, first}
 use Rattle.rules.specs.World.{World, alone}
@@ -27,10 +28,10 @@ use Rattle.layout.specs.SoundLaws.{sound-view}
 use Rattle.layout.specs.WalkLaws.{kept-self, focus-made}
 use Rattle.layout.specs.Events.{eventsTo}
 use Rattle.promises.specs.Answers.{Numbers, seen}
-use Rattle.promises.specs.Promises.{meaning, at, byAt, roomFor, Shows, SwitchDone}
+use Rattle.promises.specs.Promises.{meaning, at, byAt, roomFor, Shows, FarDone, SwitchDone}
 use Rattle.promises.specs.Calls.{goalAt, eventsIn, table, AskDone, Done, Called, Code, is-done, is-refused, code-of, table-rises, sound-first, done-leaves}
 use Rattle.demands.specs.Tests.{sizeAt, world, refusedAs, first-says, next-made, seen-numbered, goal-same, events-same, table-says}
-use Rattle.demands.specs.Plain.{deep-one, plain-meaning, plain-changed, ranks-changed}
+use Rattle.demands.specs.Plain.{deep-one, plain-meaning, plain-changed, ranked-changed}
 
 -- what `act` does to the meaning of s, with room for as many events as t has
 unfoldable pub acted : Call → List ℕ → List ℕ → Outcome (World Deep)
@@ -101,11 +102,15 @@ module _ (s t s′ t′ : List ℕ) (n : Numbers) (ok : Sound s) where
   value-numbers : (a x : ℕ) → Shows s a x n → n ≡ seen (valueIn (at s a x)) (byAt s a x)
   value-numbers a x (v, e, f) = rw f e
 
+  far-numbers : (a b : ℕ) → FarDone s a b n → n ≡ numbered-as (pos (far (view s .tree) a b)) 0 0
+  far-numbers a b (k, e, f) = e ∙ ap (λ (m : ℕ). numbered-as (pos m) 0 0) (between-far (view s .tree) (sound-view s ok .proper) a b k f)
+
   ask-numbers : (q : Ask) → AskDone q s n → n ≡ numbersOf (unrefused (Call.ask q) s)
   unfolding numbersOf answerOf eventsOf shown meaning home at byAt view viewF fieldsOf
   ask-numbers (Ask.look x) d = value-numbers (focus s) x d
   ask-numbers Ask.here d = d
   ask-numbers (Ask.peek a x) d = value-numbers a x d
+  ask-numbers (Ask.far a b) d = far-numbers a b d
 
   done-numbers : (c : Call) → Done c s t s′ t′ n → n ≡ numbersOf (unrefused c s)
   unfolding numbersOf answerOf eventsOf shown meaning home view viewF fieldsOf
@@ -131,7 +136,7 @@ module _ (s t s′ t′ : List ℕ) (n : Numbers) (ok : Sound s) where
       let same : SameDeep (meaning s′) (changed z c (world s)) =
       effect-determined z c (world s) (meaning s′) (changed z c (world s)) (done-effect s t s′ t′ n ok c d) acts in
       let ok′ : Sound s′ = done-leaves c s t s′ t′ n ok d .0 in
-      deep-one s′ ok′ (changed z c (world s)) same (ranks-changed z (meaning s) (plain-meaning s ok) c (seen-numbered s ok .ranks))
+      deep-one s′ ok′ (changed z c (world s)) same (ranked-changed s ok c)
       (plain-meaning s′ ok′) (plain-changed z (meaning s) (plain-meaning s ok) c)
 
 pub as-act : (c : Call) (s t s′ t′ : List ℕ) (n : Numbers) → Sound s → Called c s t s′ t′ n → AsAct c s t s′ t′ n

@@ -119,9 +119,9 @@ table =
     ∷ row "(b) its first bind is 6" FirstBindFull
     ∷ row "(c) N=2,048 opens" ((v : ℕ) → 1 ≤ v → v ≤ maxVars → Opens v 2048)
     ∷ row "(c) N=2,049 is 1" ((v : ℕ) → OpensNot v 2049)
-    ∷ row "(d) for V=1, N=4 a buffer of 61 opens" (OpensIn 61)
-    ∷ row "(d) a buffer of 60 is 1" (OpensNotIn 60)
-    ∷ row "(d) an opened store lent with 60 is 2" (LentShort 60)
+    ∷ row "(d) for V=1, N=4 a buffer of 69 opens" (OpensIn 69)
+    ∷ row "(d) a buffer of 68 is 1" (OpensNotIn 68)
+    ∷ row "(d) an opened store lent with 68 is 2" (LentShort 68)
     ∷ row "(e) x=V-1 is good" (Gives 2 4 0 (one ++ one) (ask (look 1) ∷ make (bind 1 (pos 5)) ∷ set 1 (pos 6) ∷ ask (peek 0 1) ∷ [])
     (val (pos 1) 0 ∷ ok 1 [] ∷ ok 1 [] ∷ val (pos 1) 0 ∷ []))
     ∷ row "(e) x=V is 3" (Gives 2 4 0 (one ++ one) (ask (look 2) ∷ make (bind 2 (pos 5)) ∷ set 2 (pos 6) ∷ ask (peek 0 2) ∷ [])
@@ -162,25 +162,25 @@ first-bind v tops s s′ n o x w s″ m known p = go (p .answers .first)
     go (inr (a, inr (b, inl (e, f)))) = let (r, same) = p .answers .refused (omega arith) in (r ∙ ap refusal (sym e), same)
     go (inr (a, inr (b, inr (never, e)))) = absurd (never is-full)
 
--- ---- (d): a store of 61 bytes lent with 60
-short : (tops s s′ : List ℕ) (n : Numbers) → Opened 1 4 tops s s′ n → Sound (take 60 s′) → ⊥
+-- ---- (d): a store of 69 bytes lent with 68
+short : (tops s s′ : List ℕ) (n : Numbers) → Opened 1 4 tops s s′ n → Sound (take 68 s′) → ⊥
 unfolding headN headOf
 short tops s s′ n o ok =
-    let head = part-take s′ 60 0 8 (omega arith) in
-    let v : vars (take 60 s′) ≡ 1 = ap (λ (h : List ℕ). u16 h 0) head ∙ o .vars in
-    let r : room (take 60 s′) ≡ 4 = ap (λ (h : List ℕ). u16 h 2) head ∙ o .nodes in
-    omega (arith, ok .long, length-take 60 s′)
+    let head = part-take s′ 68 0 8 (omega arith) in
+    let v : vars (take 68 s′) ≡ 1 = ap (λ (h : List ℕ). u16 h 0) head ∙ o .vars in
+    let r : room (take 68 s′) ≡ 4 = ap (λ (h : List ℕ). u16 h 2) head ∙ o .nodes in
+    omega (arith, ok .long, length-take 68 s′)
 
-lent-short : LentShort 60
+lent-short : LentShort 68
 lent-short tops s s′ n o c t s″ t″ m p =
-    let q = called c (take 60 s′) t s″ t″ m p in
-    let e : m .code ≡ 2 = damaged-only c (take 60 s′) t s″ t″ m (short tops s s′ n o) q in
+    let q = called c (take 68 s′) t s″ t″ m p in
+    let e : m .code ≡ 2 = damaged-only c (take 68 s′) t s″ t″ m (short tops s s′ n o) q in
     let (a, (b, d)) = q .refused (omega arith) in
     (a ∙ ap refusal e, b, d)
 
 -- ---- runs
 gives : (v k events : ℕ) (tops : List ℕ) (cs : List Call) (said : List Said) → 1 ≤ v → v ≤ maxVars → 1 ≤ k → k ≤ maxNodes → Tops v tops
-    → map saidBy (run (record { vars = v; nodes = k }) events cs (alone (openDeep (λ m. m) (topCells v tops)))) ≡ said → Gives v k events tops cs said
+    → map saidBy (run (record { vars = v; nodes = k }) events cs (alone (openDeep (λ m. 0) (topCells v tops)))) ≡ said → Gives v k events tops cs said
 gives v k events tops cs said a b c d t e s s′ n rs long p r =
     let o : Opened v k tops s s′ n = opens v k tops s s′ n p (openable a b c d t long) in
     (o .answer, opened-session v k events tops s s′ n cs rs o r ∙ e)
@@ -212,11 +212,11 @@ tops-none = record { long = refl; proper = proper }
 
 -- V and N of the runs are in range
 one-var : (events : ℕ) (tops : List ℕ) (cs : List Call) (said : List Said) → Tops 1 tops
-    → map saidBy (run (record { vars = 1; nodes = 4 }) events cs (alone (openDeep (λ m. m) (topCells 1 tops)))) ≡ said → Gives 1 4 events tops cs said
+    → map saidBy (run (record { vars = 1; nodes = 4 }) events cs (alone (openDeep (λ m. 0) (topCells 1 tops)))) ≡ said → Gives 1 4 events tops cs said
 one-var events tops cs said t e = gives 1 4 events tops cs said (omega arith) (omega arith) (omega arith) (omega arith) t e
 
 two-vars : (cs : List Call) (said : List Said)
-    → map saidBy (run (record { vars = 2; nodes = 4 }) 0 cs (alone (openDeep (λ m. m) (topCells 2 (one ++ one))))) ≡ said → Gives 2 4 0 (one ++ one) cs said
+    → map saidBy (run (record { vars = 2; nodes = 4 }) 0 cs (alone (openDeep (λ m. 0) (topCells 2 (one ++ one))))) ≡ said → Gives 2 4 0 (one ++ one) cs said
 two-vars cs said e = gives 2 4 0 (one ++ one) cs said (omega arith) (omega arith) (omega arith) (omega arith) tops-two e
 
 pub cases : All table

@@ -1,5 +1,5 @@
 -- The owner's three demands, over the bytes of store and trace: in the owner's order and words, each from the promises that
--- the nine calls keep (crate `store`, Promises). s and t are the store and the trace at entry, s′ and t′ at exit, n the
+-- the ten calls keep (crate `promises`, Promises). s and t are the store and the trace at entry, s′ and t′ at exit, n the
 -- numbers of the answer; `Promised c` is the promise of the call c. That a call ends for all arguments and all memory lent is
 -- what its promise, which asks for nothing, is proved of. The statements come first; their proofs are below.
 -- From document 01. Assumes that lent memory holds bytes.
@@ -20,7 +20,8 @@ use Rattle.rules.specs.Meaning.{Means, home-means}
 use Rattle.rules.specs.Refusals.{setup, atTop, noValue, damaged}
 use Rattle.rules.specs.Act.{Ask, Goal, Call, shown, Ground, grounds}
 use Rattle.rules.specs.Effects.{Effect}
-use Rattle.rules.specs.Demands.{ground-known, Switched, switched-determined}
+use Rattle.rules.specs.Demands.{ground-known, Switched, switched-determined, switched-count, target-made}
+use Rattle.rules.specs.Route.{between-far}
 use Rattle.rules.specs.Places.{InPlace, moves-placed, resumes}
 use Rattle.layout.specs.Limits.{sizeOf}
 use Rattle.layout.specs.Records.{vars, room, focus}
@@ -32,12 +33,12 @@ use Rattle.layout.specs.Becomes.{Kept}
 use Rattle.layout.specs.Events.{told, eventsTo}
 use Rattle.layout.specs.SoundLaws.{sound-view}
 use Rattle.layout.specs.RouteLaws.{events-none}
-use Rattle.layout.specs.WalkLaws.{kept-self, focus-made}
+use Rattle.layout.specs.WalkLaws.{kept-self, focus-made, seen-made}
 use Rattle.layout.specs.Same.{Bytes, becomes-one}
 use Rattle.layout.specs.Opening.{topCells}
 use Rattle.promises.specs.Answers.{Numbers, refusal, seen}
 use Rattle.promises.specs.Tables.{Row, row, First, Applies, Lowest, Rising, first-exact, first-lowest, rising-above}
-use Rattle.promises.specs.Promises.{meaning, at, byAt, roomFor, Answers, Shows, damagedRow, Openable, Opened, OpenPromise, Told, SwitchDone, parentAt, GotoPromise, BackPromise, LookPromise, PeekPromise}
+use Rattle.promises.specs.Promises.{meaning, at, byAt, roomFor, Answers, Shows, damagedRow, Openable, Opened, OpenPromise, Told, SwitchDone, parentAt, GotoPromise, BackPromise, LookPromise, PeekPromise, FarDone, FarPromise}
 use Rattle.promises.specs.Calls.{Promised, eventsIn, rowAt, table, AskDone, Done, Called, called, done-sound, Code, is-done, is-refused, code-of, opens, number-same, table-rises, conditions-rise, sound-first}
 use Rattle.demands.specs.Tests.{sizeAt, world}
 use Rattle.demands.specs.AsAct.{AsAct, as-act, done-effect, told-none}
@@ -155,6 +156,10 @@ pub record Demand3 : Type 0 where
   -- so went every goto and every back that answers 0
   pub went : (s t : List ℕ) (a : ℕ) (s′ t′ : List ℕ) (n : Numbers) → Bytes s → GotoPromise s t a s′ t′ n → n .code ≡ 0 → Walked s t a s′ t′ n
   pub went-back : (s t s′ t′ : List ℕ) (n : Numbers) → Bytes s → BackPromise s t s′ t′ n → n .code ≡ 0 → Walked s t (parentAt s) s′ t′ n
+  -- far tells that number of any two environments, with nothing moved (document 02, W3)
+  pub far : (s : List ℕ) (a b : ℕ) (s′ : List ℕ) (n : Numbers) → Sound s → IsMade s a → IsMade s b → FarPromise s a b s′ n → FarDone s a b n × (s′ ≡ s)
+  -- .. and of the focus and a target, what a goto there reports
+  pub as-far : (s t : List ℕ) (a : ℕ) (s′ t′ s″ : List ℕ) (n m : Numbers) → GotoPromise s t a s′ t′ n → n .code ≡ 0 → FarPromise s (focus s) a s″ m → m .out ≡ pos (n .moves)
   -- resumed where the focus is: done with no move and no event, and no byte differs
   pub resumed : (s t s′ t′ : List ℕ) (n : Numbers) → Bytes s → Bytes s′ → Sound s → GotoPromise s t (focus s) s′ t′ n
       → Told n (pos (focus s)) 0 0 × (s′ ≡ s) × (t′ ≡ t)
@@ -376,5 +381,27 @@ goes-back s t s′ t′ n b ok below enough p = let e = go (p .answers .first) i
     go (inr (x, inr (y, inl (e, top)))) = absurd (below top)
     go (inr (x, inr (y, inr (z, e)))) = e
 
+-- far, of two that are made, is done
+tells : (s : List ℕ) (a b : ℕ) (s′ : List ℕ) (n : Numbers) → Sound s → IsMade s a → IsMade s b → FarPromise s a b s′ n → FarDone s a b n × (s′ ≡ s)
+tells s a b s′ n ok made made′ p = (go (p .answers .first), p .same)
+  where
+    go : First (conditions (Call.ask (Ask.far a b)) s []) (n .code) → FarDone s a b n
+    go (inl (e, bad)) = absurd (bad ok)
+    go (inr (x, inl (e, un))) = absurd (un made)
+    go (inr (x, inr (y, inl (e, un)))) = absurd (un made′)
+    go (inr (x, inr (y, inr (z, e)))) = p .answers .done e
+
+-- from the focus to the target of a goto that is done it tells the goto's moves: both are the distance
+goto-far : (s t : List ℕ) (a : ℕ) (s′ t′ s″ : List ℕ) (n m : Numbers) → GotoPromise s t a s′ t′ n → n .code ≡ 0 → FarPromise s (focus s) a s″ m → m .out ≡ pos (n .moves)
+unfolding view viewF fieldsOf
+goto-far s t a s′ t′ s″ n m p e q =
+    let ok : Sound s = done-sound (p .answers) e in
+    let d : SwitchDone s t a s′ t′ n = p .answers .done e in
+    let w = sound-view s ok in
+    let count = switched-count (view s) (view s′) a (d .moves) (length (d .moves)) (d .events) w (d .switched) in
+    let made : IsMade s a = seen-made s ok a (target-made (view s) (view s′) a (d .moves) (length (d .moves)) (d .events) w (d .switched)) in
+    let (k, told-as, apart) = tells s (focus s) a s″ m ok (focus-made s ok) made q .0 in
+    out-is told-as ∙ ap pos (between-far (view s .tree) (w .proper) (focus s) a k apart ∙ sym count ∙ sym (ap (λ (o : Numbers). o .moves) (d .answer)))
+
 pub demand-3 : Demand3
-demand-3 = record { goto = goes; back = goes-back; went = gone; went-back = gone-back; resumed = resumed-there }
+demand-3 = record { goto = goes; back = goes-back; went = gone; went-back = gone-back; far = tells; as-far = goto-far; resumed = resumed-there }

@@ -8,23 +8,25 @@ use Prim.Native.Nat.{ℕ}
 use native.Mathlib.Omega.{arith}
 use native.Mathlib.Decide.{ℕ-discrete}
 use mathlib.Core.List.{List, [], _∷_}
-use Rattle.rules.specs.Basic.{upd, upd-same, upd-other, upd-id}
-use Rattle.rules.specs.Tree.{What, blank, top, binding, wind, Proper, path, path-top}
+use Rattle.rules.specs.Basic.{upd, upd-same, upd-other}
+use Rattle.rules.specs.Tree.{What, blank, top, binding, wind, Proper, Ranked, path, path-top, ranks-once}
 use Rattle.rules.specs.Values.{unbound, value, Values, exchange, swap-stored-other, leaveAll, assign, Decides, decider-decides}
 use Rattle.rules.specs.Store.{Deep, home}
 use Rattle.rules.specs.Calls.{deciderAt, valueAt}
 use Rattle.rules.specs.Meaning.{binds-is}
 use Rattle.rules.specs.World.{alone}
 use Rattle.rules.specs.Act.{Child, Call, Size, nextNumber, whatOf, ownOf, changed}
+use Rattle.rules.specs.Grow.{grow-ranked}
+use Rattle.rules.specs.Agree.{growable, not-blank, new-is}
 use Rattle.rules.specs.Effects.{SameDeep}
 use Rattle.layout.specs.Records.{focus}
 use Rattle.layout.specs.View.{view}
 use Rattle.layout.specs.Sound.{Sound}
-use Rattle.layout.specs.SoundLaws.{sound-view}
+use Rattle.layout.specs.SoundLaws.{sound-view, sound-ranked}
 use Rattle.layout.specs.Same.{own-value, binding-up, others-blank}
 use Rattle.layout.specs.Reading.{top-up}
 use Rattle.promises.specs.Promises.{meaning}
-use Rattle.demands.specs.Tests.{seen-numbered}
+use Rattle.demands.specs.Tests.{sizeAt, world, seen-numbered}
 
 -- nothing is stored but by bindings
 abbrev pub Plain : Deep → Type 0
@@ -35,12 +37,12 @@ unfolding valueAt deciderAt
 top-value d proper e x = rw (path-top (d .tree) proper 0 e)
 
 -- the same tree, focus and values: the same deep store
-pub deep-one : (s : List ℕ) → Sound s → (d : Deep) → SameDeep (meaning s) d → ((n : ℕ) → d .tree .rank n ≡ n) → Plain (meaning s) → Plain d → meaning s ≡ d
+pub deep-one : (s : List ℕ) → Sound s → (d : Deep) → SameDeep (meaning s) d → Ranked (d .tree) → Plain (meaning s) → Plain d → meaning s ≡ d
 unfolding meaning home
-deep-one s ok d same ranks plain plain′ = λ i. record { tree = trees i; focus = same .focus i; own = record { cell = fun-ext cell i; stored = fun-ext stored i } }
+deep-one s ok d same ranked plain plain′ = λ i. record { tree = trees i; focus = same .focus i; own = record { cell = fun-ext cell i; stored = fun-ext stored i } }
   where
     rank : (n : ℕ) → view s .tree .rank n ≡ d .tree .rank n
-    rank n = seen-numbered s ok .ranks n ∙ sym (ranks n)
+    rank = ranks-once (view s .tree) (sound-view s ok .proper) (d .tree) (sound-ranked s ok) ranked (λ n. sym (same .parents n))
 
     trees : view s .tree ≡ d .tree
     trees = λ i. record { what = fun-ext (same .kinds) i; up = fun-ext (same .parents) i; rank = fun-ext rank i }
@@ -86,15 +88,12 @@ pub plain-meaning : (s : List ℕ) → Sound s → Plain (meaning s)
 unfolding meaning home
 plain-meaning s ok n h = still (view s .tree .what) (path (view s .tree) (view s .focus)) (view s .values) n h ∙ others-blank s ok n h
 
-new-rank : {rank : ℕ → ℕ} (m n : ℕ) → ((k : ℕ) → rank k ≡ k) → upd rank m m n ≡ n
-new-rank {rank} m n r = ap (λ (f : ℕ → ℕ). f n) (upd-id rank m m (r m)) ∙ r n
-
 -- a child that is no binding stores nothing
 child-plain : (k : Child) → ((x : ℕ) → whatOf k ≢ binding x) → ownOf k ≡ unbound
 child-plain (Child.bind x v) h = absurd (h x refl)
 child-plain (Child.wind p q) h = refl
 
--- no call stores anything but by a binding, and a new node ranks by its number
+-- no call stores anything but by a binding
 module _ (z : Size) (d : Deep) (plain : Plain d) where
   pub plain-changed : (c : Call) → Plain (changed z c (alone d))
   unfolding changed deciderAt
@@ -114,9 +113,12 @@ module _ (z : Size) (d : Deep) (plain : Plain d) where
       go (some m) k = upd-other (d .own .stored) m n (value v) (λ e. h x (rw e (binds-is (d .tree .what m) x (k .1)))) ∙ plain n h
   plain-changed (Call.switch g) n h = plain n h
 
-  pub ranks-changed : (c : Call) → ((n : ℕ) → d .tree .rank n ≡ n) → (n : ℕ) → changed z c (alone d) .tree .rank n ≡ n
-  unfolding changed
-  ranks-changed (Call.ask q) r n = r n
-  ranks-changed (Call.make k) r n = new-rank (nextNumber z (d .tree)) n r
-  ranks-changed (Call.set x v) r n = r n
-  ranks-changed (Call.switch g) r n = r n
+-- a child is one deeper than its parent
+pub ranked-changed : (s : List ℕ) → Sound s → (c : Call) → Ranked (changed (sizeAt s) c (world s) .tree)
+unfolding changed meaning home
+ranked-changed s ok (Call.ask q) = sound-ranked s ok
+ranked-changed s ok (Call.make k) =
+    let w = sound-view s ok in
+    grow-ranked (growable (sizeAt s) (view s .tree) (seen-numbered s ok) (view s .focus) (whatOf k) (w .proper) (w .focus-made) (not-blank (whatOf k) (new-is k))) (sound-ranked s ok) refl
+ranked-changed s ok (Call.set x v) = sound-ranked s ok
+ranked-changed s ok (Call.switch g) = sound-ranked s ok

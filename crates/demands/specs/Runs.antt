@@ -10,6 +10,7 @@ use Rattle.rules.specs.Store.{Deep, home}
 use Rattle.rules.specs.Calls.{valueAt, openDeep, open-values, home-open}
 use Rattle.rules.specs.World.{World, alone}
 use Rattle.rules.specs.Act.{Call, codeOf, outOf, movesOf, byOf, Outcome, act, Line, run}
+use Rattle.rules.specs.Agree.{open-ranked}
 use Rattle.rules.specs.Effects.{SameDeep}
 use Rattle.layout.specs.Limits.{eventSize}
 use Rattle.layout.specs.Records.{vars, room}
@@ -61,10 +62,10 @@ session-run {events} {s} ok (next {c = c} {cs = cs} {rs = rs} t s′ t′ n e p 
     let rest : rs ≡ map saidBy (run (sizeAt s) events cs (now .after)) = session-run (a .sound) r ∙ (λ i. map saidBy (run (size i) events cs (left i))) in
     λ i. record { numbers = numbers i; events = told-as i } ∷ rest i
 
-open-value : (cells : ℕ → Cell) (a x : ℕ) → valueAt (openDeep (λ m. m) cells) a x ≡ cells x
-open-value cells a x = ap (λ (d : Deep). valueAt d a x) (sym (home-open (λ m. m) cells)) ∙ open-values (λ m. m) cells a x
+open-value : (cells : ℕ → Cell) (a x : ℕ) → valueAt (openDeep (λ m. 0) cells) a x ≡ cells x
+open-value cells a x = ap (λ (d : Deep). valueAt d a x) (sym (home-open (λ m. 0) cells)) ∙ open-values (λ m. 0) cells a x
 
-same : (v k : ℕ) (tops s s′ : List ℕ) (n : Numbers) → Opened v k tops s s′ n → SameDeep (meaning s′) (openDeep (λ m. m) (topCells v tops))
+same : (v k : ℕ) (tops s s′ : List ℕ) (n : Numbers) → Opened v k tops s s′ n → SameDeep (meaning s′) (openDeep (λ m. 0) (topCells v tops))
 unfolding meaning home at view viewF fieldsOf
 same v k tops s s′ n o = record {
   focus = o .focus;
@@ -74,12 +75,12 @@ same v k tops s s′ n o = record {
 }
 
 -- an opened store means the deep store with the top values
-pub opened-means : (v k : ℕ) (tops s s′ : List ℕ) (n : Numbers) → Opened v k tops s s′ n → meaning s′ ≡ openDeep (λ m. m) (topCells v tops)
-opened-means v k tops s s′ n o = deep-one s′ (o .sound) (openDeep (λ m. m) (topCells v tops)) (same v k tops s s′ n o) (λ m. refl) (plain-meaning s′ (o .sound)) (λ m h. refl)
+pub opened-means : (v k : ℕ) (tops s s′ : List ℕ) (n : Numbers) → Opened v k tops s s′ n → meaning s′ ≡ openDeep (λ m. 0) (topCells v tops)
+opened-means v k tops s s′ n o = deep-one s′ (o .sound) (openDeep (λ m. 0) (topCells v tops)) (same v k tops s s′ n o) open-ranked (plain-meaning s′ (o .sound)) (λ m h. refl)
 
 -- so the numbers and the events of a run on it are the rules'
 pub opened-session : (v k events : ℕ) (tops s s′ : List ℕ) (n : Numbers) (cs : List Call) (rs : List Said) → Opened v k tops s s′ n → Session events s′ cs rs
-    → rs ≡ map saidBy (run (record { vars = v; nodes = k }) events cs (alone (openDeep (λ m. m) (topCells v tops))))
+    → rs ≡ map saidBy (run (record { vars = v; nodes = k }) events cs (alone (openDeep (λ m. 0) (topCells v tops))))
 unfolding sizeAt
 opened-session v k events tops s s′ n cs rs o r =
     session-run (o .sound) r ∙ (λ i. map saidBy (run (record { vars = o .vars i; nodes = o .nodes i }) events cs (alone (opened-means v k tops s s′ n o i))))

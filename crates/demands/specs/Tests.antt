@@ -116,7 +116,7 @@ module _ (s : List ℕ) (ok : Sound s) where
 
   pub seen-numbered : Numbered (sizeAt s) seen
   unfolding IsMade sizeAt view viewF treeF
-  seen-numbered = numbered (sizeAt s) seen (made s) made-fits (λ n l. made-seen s ok n l) beyond-made (λ n. refl)
+  seen-numbered = numbered (sizeAt s) seen (made s) made-fits (λ n l. made-seen s ok n l) beyond-made
 
   says-unmade : (a : ℕ) → Says (not (isMade seen a)) (IsMade s a → ⊥)
   says-unmade a = go (isMade seen a) refl

@@ -7,7 +7,7 @@ use mathlib.Core.List.{List}
 use lib.IntN.{ℤ}
 use Rattle.rules.specs.Act.{Ask, Child, Goal, Call}
 use Rattle.layout.specs.Same.{Bytes}
-use Rattle.promises.specs.Promises.{OpenPromise, LookPromise, PeekPromise, HerePromise, SetPromise, BindPromise, WindPromise, GotoPromise, BackPromise}
+use Rattle.promises.specs.Promises.{OpenPromise, LookPromise, PeekPromise, FarPromise, HerePromise, SetPromise, BindPromise, WindPromise, GotoPromise, BackPromise}
 use Rattle.demands.specs.NoChoice.{no-choice, no-choice-untraced, open-one}
 use Rattle.kestrelnib.specs.declared.Reply.{Reply}
 use Rattle.kestrelnib.specs.Face.{Hands, hands-one}
@@ -38,6 +38,9 @@ module _ (s s′ s″ : List ℕ) (b : Bytes s′) (b′ : Bytes s″) (r q : Re
 
   pub kn-peek-one : (a x : ℕ) → Hands r (PeekPromise s a x s′) → Hands q (PeekPromise s a x s″) → (r ≡ q) × (s′ ≡ s″)
   kn-peek-one a x = hands-one (λ n m h l. no-choice-untraced s s′ s″ n m b b′ (Call.ask (Ask.peek a x)) (h, refl) (l, refl))
+
+  pub kn-far-one : (a k : ℕ) → Hands r (FarPromise s a k s′) → Hands q (FarPromise s a k s″) → (r ≡ q) × (s′ ≡ s″)
+  kn-far-one a k = hands-one (λ n m h l. no-choice-untraced s s′ s″ n m b b′ (Call.ask (Ask.far a k)) (h, refl) (l, refl))
 
   module _ (t t′ t″ : List ℕ) where
     pub kn-wind-one : (p k : ℕ) → Hands r (WindPromise s t p k s′ t′) → Hands q (WindPromise s t p k s″ t″) → (r ≡ q) × ((s′ ≡ s″) × (t′ ≡ t″))

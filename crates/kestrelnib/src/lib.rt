@@ -1,7 +1,7 @@
-// The C face: the nine calls for the firmware. Each hands its numbers and buffers on, and its answer back as one plain struct.
+// The C face: the ten calls for the firmware. Each hands its numbers and buffers on, and its answer back as one plain struct.
 ghost use mathlib.Core.Path.{_≡_};
 ghost use Rattle.promises.specs.Answers.{numbers};
-ghost use Rattle.promises.specs.Promises.{OpenPromise, BindPromise, WindPromise, LookPromise, SetPromise, HerePromise, GotoPromise, BackPromise, PeekPromise};
+ghost use Rattle.promises.specs.Promises.{OpenPromise, BindPromise, WindPromise, LookPromise, SetPromise, HerePromise, GotoPromise, BackPromise, PeekPromise, FarPromise};
 ghost use Rattle.kestrelnib.specs.Face.{replyOf, Hands, limit};
 use promises::Answer;
 use promises::numbers_of;
@@ -91,6 +91,13 @@ pub extern "C" fn kn_peek(store: &[u8], a: u32, x: u32) -> Reply
     ensures { λ r. ⌜ Hands r (PeekPromise (now (store .entry)) a x (now (store .exit))) ⌝ }
 {
     numbered(store::peek(store, a, x))
+}
+
+#[no_mangle]
+pub extern "C" fn kn_far(store: &[u8], a: u32, b: u32) -> Reply
+    ensures { λ r. ⌜ Hands r (FarPromise (now (store .entry)) a b (now (store .exit))) ⌝ }
+{
+    numbered(store::far(store, a, b))
 }
 
 // The library's own limits and sizes, by their place in document 01's list, so that a test can hold the header to them.

@@ -1,8 +1,9 @@
 -- What the soundness check needs: answers of tests carried from one statement to another, bytes that are zero, the count
--- of the nodes that are in, and the climb from the focus. Assumes nothing.
+-- of the nodes that are in, and the modes. Assumes nothing.
 use mathlib.Core.Path.{_≡_, refl, sym, ap, subst, _∙_}
 use mathlib.Core.Logic.{_≢_, _⊎_, inl, inr, ⊎-elim}
 use mathlib.Core.Bool.{Bool, true, false, not}
+use mathlib.Core.Option.{some}
 use mathlib.Core.List.{List, [], _∷_}
 use Prim.Native.Nat.{ℕ, zero, suc, _+_, _-_, _/_, _%_, _≤_, _<_}
 use native.Mathlib.Nat.{le-refl}
@@ -13,18 +14,18 @@ use lib.Dec.{eqb, ltb}
 use lib.ListN.{length, getD, take, drop, replicate, length-drop, length-replicate, getD-replicate}
 use lib.Seq.{length-take-le, getD-take, getD-drop, ext-getD}
 use borrow.Author.Tests.{eqb-true, eqb-false, ltb-true, ltb-false}
-use Rattle.rules.specs.Basic.{on, Once, clash, on-head, on-cases, on-more}
-use Rattle.rules.specs.Tree.{path, path-top, path-up, path-once, on-path-rank}
+use Rattle.rules.specs.Basic.{on, clash, on-head, on-cases}
+use Rattle.rules.specs.Tree.{Tree, Proper, path, path-top, path-up, path-once, downward, on-path-above, rank-depth}
 use Rattle.rules.specs.Modes.{num, count, count-on, modes-by-count}
 use Rattle.layout.specs.Limits.{nodeSize, nodeAt}
 use Rattle.layout.specs.Bytes.{part, part-at, part-length}
-use Rattle.layout.specs.Records.{vars, room, made, nodeOf, kindN, parentN, topNode, blankNode}
-use Rattle.layout.specs.Kinds.{isIn}
+use Rattle.layout.specs.Records.{vars, room, made, nodeOf, kindN, parentN, depthN, topNode, blankNode}
+use Rattle.layout.specs.Kinds.{isIn, isOut, node-kind, out-not-in, not-false}
 use Rattle.layout.specs.Fields.{Fields, fieldsOf, Fit, madeF, focusF}
 use Rattle.layout.specs.View.{upN, treeF}
-use Rattle.layout.specs.Sound.{Says, Shape, Ins}
-use Rattle.layout.specs.Laws.{node-in, OfBuffer}
-use Rattle.layout.specs.SoundLaws.{BlanksOk, shape-inners, up-inner, up-top, shape-proper, modes-by-numbers}
+use Rattle.layout.specs.Sound.{Says, Shape, Ins, Sound}
+use Rattle.layout.specs.Laws.{node-in, OfBuffer, of-buffer}
+use Rattle.layout.specs.SoundLaws.{BlanksOk, Place, is-top, is-inner, is-blank, place, out-top, shape-inners, parents-made, inner-up, up-inner, shape-proper, shape-ranked, path-made, modes-by-numbers, sound-fit}
 
 -- ---- tests
 pub says-map : (b : Bool) {P Q : Type 0} → (P → Q) → (Q → P) → Says b P → Says b Q
@@ -115,8 +116,8 @@ module _ (p : List ℕ) (long : length p ≡ nodeSize) where
   unfolding topNode
   top-bytes e z = ext-getD 0 p topNode long (λ i h. go i (omega arith) (ℕ-discrete i 0))
     where
-      rest : (i : ℕ) → i < 11 → getD topNode (suc i) 0 ≡ 0
-      rest i h = getD-replicate 11 i 0 0 h
+      rest : (i : ℕ) → i < nodeSize - 1 → getD topNode (suc i) 0 ≡ 0
+      rest i h = getD-replicate (nodeSize - 1) i 0 0 h
 
       go : (i : ℕ) → i < nodeSize → Dec (i ≡ 0) → getD p i 0 ≡ getD topNode i 0
       go i h (yes q) = rw q e
@@ -129,7 +130,7 @@ module _ (p : List ℕ) (long : length p ≡ nodeSize) where
     where
       rest : (i : ℕ) → 1 ≤ i → i < nodeSize → getD topNode i 0 ≡ 0
       rest zero l h = absurd (omega arith)
-      rest (suc i) l h = getD-replicate 11 i 0 0 (omega arith)
+      rest (suc i) l h = getD-replicate (nodeSize - 1) i 0 0 (omega arith)
 
 -- the nodes from made on are blank where their bytes are zero
 module _ (s : List ℕ) (fit : Fit s) where
@@ -174,7 +175,6 @@ count-same : (b c : ℕ → Bool) (n : ℕ) → ((k : ℕ) → k < n → b k ≡
 count-same b c zero h = refl
 count-same b c (suc n) h = omega (arith, ap num (h n (le-refl _)), count-same b c n (λ k l. h k (omega arith)))
 
--- ---- the climb: from the focus n nodes were passed, all of them in, and the path of a is left
 abbrev pub modeF : Fields → ℕ → Bool
 modeF f n = isIn (kindN (f .node n))
 
@@ -185,84 +185,106 @@ counted-all f n k top c =
     let out : num (modeF f 0) ≡ 0 = ap (λ (p : List ℕ). num (isIn (kindN p))) top in
     omega (arith, c .all)
 
-abbrev route : Fields → ℕ → List ℕ
-route f a = path (treeF (f .node)) a
+-- ---- the modes without a climb: as many nodes are in as the focus is deep, and where a node is in, what is above it is too
+-- where the node n is in, its parent is in or the top
+abbrev pub Rises : Fields → ℕ → Type 0
+Rises f n = modeF f n ≡ true → isOut (kindN (f .node (parentN (f .node n)))) ≡ false
 
-pub record Climbed (f : Fields) (a n : ℕ) : Type 0 where
-  pub made : a < madeF f
-  pub bound : n + a ≤ focusF f
-  pub long : length (route f (focusF f)) ≡ n + length (route f a)
-  pub passed : (k : ℕ) → on k (route f (focusF f)) ≡ true → (on k (route f a) ≡ true) ⊎ (modeF f k ≡ true)
-  pub left : (k : ℕ) → on k (route f a) ≡ true → on k (route f (focusF f)) ≡ true
+abbrev pub AllRise : Fields → Type 0
+AllRise f = (n : ℕ) → 1 ≤ n → n < madeF f → Rises f n
+
+-- the focus is in or the top, and so many are in
+abbrev pub FocusIn : Fields → Type 0
+FocusIn f = (isOut (kindN (f .node (focusF f))) ≡ false) × (depthN (f .node (focusF f)) ≡ count (modeF f) (madeF f))
 
 module _ (f : Fields) (buffer : OfBuffer f) (ok : Shape f) where
-  route-up : (a : ℕ) → 1 ≤ a → a < madeF f → route f a ≡ a ∷ route f (parentN (f .node a))
-  unfolding treeF
-  route-up a l h = path-up (treeF (f .node)) (shape-proper f buffer ok) a (parentN (f .node a)) (up-inner f buffer ok a l h)
+  abbrev tree : Tree
+  tree = treeF (f .node)
 
-  route-top : route f 0 ≡ []
-  unfolding treeF
-  route-top = path-top (treeF (f .node)) (shape-proper f buffer ok) 0 (ap upN (ok .top) ∙ up-top)
+  proper : Proper tree
+  proper = shape-proper f buffer ok
 
-  -- a path lies below made
-  route-made : (k : ℕ) → on k (route f (focusF f)) ≡ true → k < madeF f
-  unfolding treeF
-  route-made k h = omega (arith, on-path-rank (treeF (f .node)) (shape-proper f buffer ok) (focusF f) k h, ok .head .focus-made)
+  above : ℕ → ℕ
+  above n = parentN (f .node n)
 
-  pub climb-start : Climbed f (focusF f) 0
-  climb-start = record {
-    made = ok .head .focus-made;
-    bound = omega arith;
-    long = omega arith;
-    passed = λ k h. inl h;
-    left = λ k h. h;
-  }
+  path-above : (n : ℕ) → 1 ≤ n → n < madeF f → path tree n ≡ n ∷ path tree (above n)
+  unfolding treeF above
+  path-above n l h = path-up tree proper n (above n) (up-inner f buffer ok n l h)
 
-  module _ (a n : ℕ) (c : Climbed f a n) (inner : 1 ≤ a) where
-    -- a node of the path that is out
-    pub climb-out : modeF f a ≡ false → Ins f → ⊥
-    climb-out o i =
-        let r = route-up a inner (c .made) in
-        let h : on a (route f a) ≡ true = rw r (on-head a (route f (parentN (f .node a)))) in
-        clash (i a ∙ c .left a h) o
-
-    pub climb-on : modeF f a ≡ true → Climbed f (parentN (f .node a)) (n + 1)
-    climb-on o =
-        let r = route-up a inner (c .made) in
-        let u = shape-inners f ok a inner (c .made) .parent in
-        record {
-          made = omega (arith, c .made);
-          bound = omega (arith, c .bound);
-          long = omega (arith, c .long, ap length r);
-          passed = λ k h. go k (c .passed k h);
-          left = λ k h. c .left k (rw r (on-more k a (route f (parentN (f .node a))) h));
-        }
-      where
-        go : (k : ℕ) → (on k (route f a) ≡ true) ⊎ (modeF f k ≡ true) → (on k (route f (parentN (f .node a))) ≡ true) ⊎ (modeF f k ≡ true)
-        go k (inr m) = inr m
-        go k (inl h) = ⊎-elim (λ e. inr (ap (modeF f) e ∙ o)) inl (on-cases k a (route f (parentN (f .node a))) (rw (route-up a inner (c .made)) at h))
-
-  -- all of the path was passed: exactly the path is in where as many are in as were passed
-  pub climb-end : (n : ℕ) → Climbed f 0 n → Says (eqb n (count (modeF f) (madeF f))) (Ins f)
-  climb-end n c = says-map (eqb n (count (modeF f) (madeF f))) exactly counted (says-eq n (count (modeF f) (madeF f)))
+  -- a made node that is not out is the top, or in; the top and what is in are not out
+  in-or-top : (n : ℕ) → n < madeF f → isOut (kindN (f .node n)) ≡ false → (n ≡ 0) ⊎ (modeF f n ≡ true)
+  in-or-top n h e = go (place (madeF f) n)
     where
-      once : Once (route f (focusF f))
-      once = path-once (treeF (f .node)) (shape-proper f buffer ok) (focusF f)
+      go : Place (madeF f) n → (n ≡ 0) ⊎ (modeF f n ≡ true)
+      go (is-top z) = inl z
+      go (is-inner l k) = inr (not-false _ (sym (out-not-in _ (node-kind _ (shape-inners f ok n l k .node))) ∙ e))
+      go (is-blank b) = absurd (omega arith)
 
-      long : length (route f (focusF f)) ≡ n
-      long = omega (arith, c .long, ap length route-top)
+  top-not-out : (n : ℕ) → n ≡ 0 → isOut (kindN (f .node n)) ≡ false
+  top-not-out n z = ap (λ (m : ℕ). isOut (kindN (f .node m))) z ∙ ap (λ (p : List ℕ). isOut (kindN p)) (ok .top) ∙ out-top
 
-      ins : (k : ℕ) → on k (route f (focusF f)) ≡ true → modeF f k ≡ true
-      ins k h = ⊎-elim (λ e. clash e (ap (on k) route-top)) (λ m. m) (c .passed k h)
+  module _ (rise : AllRise f) where
+    -- so all of the path of a node that is not out is in
+    path-in : (n : ℕ) → n < madeF f → isOut (kindN (f .node n)) ≡ false → (k : ℕ) → on k (path tree n) ≡ true → modeF f k ≡ true
+    unfolding treeF above
+    path-in = downward tree proper (λ n. n < madeF f → isOut (kindN (f .node n)) ≡ false → (k : ℕ) → on k (path tree n) ≡ true → modeF f k ≡ true)
+        (λ n e h o k i. clash i (ap (on k) (path-top tree proper n e))) up-one
+      where
+        up-one : (n p : ℕ) → upN (f .node n) ≡ some p
+            → (p < madeF f → isOut (kindN (f .node p)) ≡ false → (k : ℕ) → on k (path tree p) ≡ true → modeF f k ≡ true)
+            → n < madeF f → isOut (kindN (f .node n)) ≡ false → (k : ℕ) → on k (path tree n) ≡ true → modeF f k ≡ true
+        up-one n p e ih h o k i =
+            let (l, m, q) = inner-up f buffer ok n p e in
+            let here : modeF f n ≡ true = ⊎-elim (λ z. absurd (omega arith)) (λ b. b) (in-or-top n h o) in
+            ⊎-elim (λ z. ap (modeF f) z ∙ here)
+            (ih (rw q at (parents-made f ok n l m)) (rw q at (rise n l m here)) k)
+            (on-cases k n (path tree p) (rw (path-up tree proper n p e) at i))
 
-      exactly : n ≡ count (modeF f) (madeF f) → Ins f
-      exactly e = modes-by-numbers f buffer ok (λ k l h. modes-by-count (modeF f) (route f (focusF f)) (madeF f) once route-made ins (sym e ∙ sym long) k h)
+    pub modes-right : FocusIn f → Ins f
+    unfolding treeF
+    modes-right (o, e) = modes-by-numbers f buffer ok (λ n l h.
+        modes-by-count (modeF f) (path tree (focusF f)) (madeF f) (path-once tree proper (focusF f)) (path-made f buffer ok (focusF f))
+        (path-in (focusF f) (ok .head .focus-made) o) (sym e ∙ rank-depth tree proper (shape-ranked f buffer ok) (focusF f)) n h)
 
-      counted : Ins f → n ≡ count (modeF f) (madeF f)
-      counted i =
-          sym long
-          ∙ sym (count-on (route f (focusF f)) (madeF f) once route-made)
-          ∙ sym (count-same (modeF f) (λ k. on k (route f (focusF f))) (madeF f) (λ k h. i k))
+  module _ (ins : Ins f) where
+    in-not-out : (n : ℕ) → n < madeF f → modeF f n ≡ true → isOut (kindN (f .node n)) ≡ false
+    in-not-out n h e = go (place (madeF f) n)
+      where
+        go : Place (madeF f) n → isOut (kindN (f .node n)) ≡ false
+        go (is-top z) = top-not-out n z
+        go (is-inner l k) = out-not-in _ (node-kind _ (shape-inners f ok n l k .node)) ∙ ap not e
+        go (is-blank b) = absurd (omega arith)
+
+    -- a node of the focus's path, or the top, is not out
+    way-not-out : (n : ℕ) → n < madeF f → (n ≡ 0) ⊎ (on n (path tree (focusF f)) ≡ true) → isOut (kindN (f .node n)) ≡ false
+    way-not-out n h (inl z) = top-not-out n z
+    way-not-out n h (inr i) = in-not-out n h (ins n ∙ i)
+
+    pub ins-rise : AllRise f
+    unfolding treeF above
+    ins-rise n l h e = way-not-out (above n) (parents-made f ok n l h) (go (ℕ-discrete (above n) 0))
+      where
+        go : Dec (above n ≡ 0) → (above n ≡ 0) ⊎ (on (above n) (path tree (focusF f)) ≡ true)
+        go (yes z) = inl z
+        go (no z) =
+            inr (on-path-above tree proper (focusF f) n (above n) (above (above n)) (up-inner f buffer ok n l h)
+            (up-inner f buffer ok (above n) (omega arith) (parents-made f ok n l h)) (sym (ins n) ∙ e))
+
+    pub ins-focus : FocusIn f
+    unfolding treeF
+    ins-focus = (
+      way-not-out (focusF f) (ok .head .focus-made) (go (ℕ-discrete (focusF f) 0)),
+      rank-depth tree proper (shape-ranked f buffer ok) (focusF f)
+          ∙ sym (count-on (path tree (focusF f)) (madeF f) (path-once tree proper (focusF f)) (path-made f buffer ok (focusF f)))
+          ∙ sym (count-same (modeF f) (λ k. on k (path tree (focusF f))) (madeF f) (λ k h. ins k)),
+    )
+      where
+        go : Dec (focusF f ≡ 0) → (focusF f ≡ 0) ⊎ (on (focusF f) (path tree (focusF f)) ≡ true)
+        go (yes z) = inl z
+        go (no z) = inr (rw (path-above (focusF f) (omega arith) (ok .head .focus-made)) (on-head (focusF f) (path tree (above (focusF f)))))
+
+pub sound-rises : (s : List ℕ) → Sound s → AllRise (fieldsOf s)
+sound-rises s ok = ins-rise (fieldsOf s) (of-buffer s (sound-fit s ok)) (ok .fields .shape) (ok .fields .ins)
 
 -- the two ways out of `if b { return ..; }`
 pub says-yes : (b : Bool) {P : Type 0} → b ≡ true → Says b P → P

@@ -4,7 +4,7 @@ use mathlib.Core.Path.{_≡_, refl, sym, ap, subst, _∙_, fun-ext}
 use mathlib.Core.Logic.{_≢_, _⊎_, inl, inr}
 use mathlib.Core.Bool.{Bool, true, false}
 use mathlib.Core.Option.{Option, none, some}
-use Prim.Native.Nat.{ℕ, _+_, _≤_, _<_}
+use Prim.Native.Nat.{ℕ, suc, _+_, _≤_, _<_}
 use native.Mathlib.Omega.{arith}
 use native.Mathlib.Decide.{ℕ-discrete}
 use mathlib.Core.List.{List}
@@ -12,25 +12,38 @@ use lib.ListN.{length}
 use lib.IntN.{ℤ}
 use mir.Syntax.{w32}
 use mir.Val.{SFits}
-use Rattle.rules.specs.Basic.{upd, upd-same, upd-other, upd-id}
+use Rattle.rules.specs.Basic.{upd, upd-same, upd-other}
 use Rattle.rules.specs.Tree.{What, blank, binding, wind}
 use Rattle.rules.specs.Values.{Cell, unbound, value, Values, putStored}
 use Rattle.rules.specs.Store as store
 use Rattle.rules.specs.Grow.{grow, Growable}
 use Rattle.rules.specs.Calls.{setCell, set-sound, make, make-binding, make-sound}
 use Rattle.layout.specs.Limits.{cellSize, bareSize, nodeSize}
-use Rattle.layout.specs.Records.{vars, room, made, focus, withFocus, withMade, blankCell, ProperCell, valueC, cellOf, withCell, bareC, putC, withNode, kindN, parentN, varN, postN, storedN, nodeB}
+use Rattle.layout.specs.Records.{vars, room, made, focus, withFocus, withMade, blankCell, ProperCell, valueC, cellOf, withCell, bareC, putC, nodeOf, withNode, kindN, parentN, varN, postN, storedN, depthN, nodeB}
 use Rattle.layout.specs.Kinds.{isIn, IsBinding, IsWind, not-both}
 use Rattle.layout.specs.Fields.{Fields, cells, nodes, fieldsOf, Fit}
 use Rattle.layout.specs.View.{asCell, whatN, upN, treeF, viewF, view}
-use Rattle.layout.specs.Sound.{NodeOk, HeadOk, Shape, Sound}
-use Rattle.layout.specs.Writes.{setB, growB, bindB, windB}
+use Rattle.layout.specs.Sound.{NodeOk, depthAbove, HeadOk, Shape, Sound}
+use Rattle.layout.specs.Writes.{depthUnder, setB, growB, bindB, windB}
 use Rattle.layout.specs.Made.{nextOf, IsFull}
 use Rattle.layout.specs.Becomes.{Becomes}
-use Rattle.layout.specs.Laws.{of-buffer, cell-in, Wrote, nodeF, cellF, headF, fields-number, wrote-node, wrote-cell, wrote-head, wrote-fit, then}
-use Rattle.layout.specs.RecordLaws.{put-length, bare-length, value-length, node-length, bare-put, node-kind, node-parent, node-var, node-post, node-stored, as-blank, as-value}
-use Rattle.layout.specs.SoundLaws.{what-binding, what-wind, what-blank, up-node, blank-node, not-blank, sound-fit, sound-view, shape-inners, shape-blanks, shape-by-numbers}
+use Rattle.layout.specs.Laws.{of-buffer, node-in, cell-in, Wrote, nodeF, cellF, headF, fields-number, wrote-node, wrote-cell, wrote-head, wrote-fit, then}
+use Rattle.layout.specs.RecordLaws.{put-length, bare-length, value-length, node-length, bare-put, node-kind, node-parent, node-var, node-post, node-stored, node-depth, as-blank, as-value}
+use Rattle.layout.specs.SoundLaws.{what-binding, what-wind, what-blank, up-node, blank-node, not-blank, depth-few, sound-fit, sound-view, shape-inners, parents-made, shape-blanks, shape-by-numbers}
 use Rattle.layout.specs.MoveLaws.{through, becomes}
+
+-- ---- the depth of a child of the focus, as the code finds it; it fits in two bytes
+pub under-is : (s : List ℕ) → Sound s → (f d : ℕ) → f ≡ focus s → d ≡ depthN (nodeOf s f) → d + 1 ≡ depthUnder s
+unfolding depthUnder fieldsOf
+under-is s ok f d e h =
+    let same = node-in s (focus s) (omega (arith, ok .fields .shape .head .focus-made, ok .fields .shape .head .made-high)) in
+    omega (arith, ap depthN same, ap (λ (n : ℕ). depthN (nodeOf s n)) e)
+
+pub under-small : (s : List ℕ) → Sound s → depthUnder s < 65536
+unfolding depthUnder fieldsOf
+under-small s ok =
+    let few = depth-few (fieldsOf s) (of-buffer s (sound-fit s ok)) (ok .fields .shape) (focus s) in
+    omega (arith, few, ok .fields .shape .head)
 
 -- ---- the cell of x takes the value v
 module _ (s : List ℕ) (fit : Fit s) (x : ℕ) (known : x < vars s) (v : ℤ) where
@@ -107,9 +120,9 @@ module _ (s : List ℕ) (ok : Sound s) (space : made s < room s) (p : List ℕ) 
       let fit₂ : Fit (withMade t (m + 1)) = wrote-fit b refl refl fit in
       subst (λ (f : Fields). Wrote s (withFocus (withMade t (m + 1)) m) (headF 3 m f)) (b .fields) (then b (wrote-head (withMade t (m + 1)) 3 m fit₂ (omega arith) (omega arith)))
 
-  grown-shape : NodeOk (vars s) m p → (c : ℕ → List ℕ) → ((y : ℕ) → y < vars s → ProperCell (bareC (c y))) → Shape (withCells c)
+  grown-shape : parentN p < m → NodeOk (vars s) m (depthN (nodes s (parentN p))) p → (c : ℕ → List ℕ) → ((y : ℕ) → y < vars s → ProperCell (bareC (c y))) → Shape (withCells c)
   unfolding fieldsOf
-  grown-shape good c proper =
+  grown-shape below good c proper =
       let sh : Shape (fieldsOf s) = ok .fields .shape in
       shape-by-numbers (withCells c)
       (record {
@@ -126,24 +139,29 @@ module _ (s : List ℕ) (ok : Sound s) (space : made s < room s) (p : List ℕ) 
       (λ n l h. node n l h (ℕ-discrete n m))
       (λ n l h. upd-other (nodes s) m n p (λ e. omega arith) ∙ shape-blanks (fieldsOf s) sh n (omega arith) h)
     where
-      node : (n : ℕ) → 1 ≤ n → n < m + 1 → Dec (n ≡ m) → NodeOk (vars s) n (upd (nodes s) m p n)
-      node n l h (yes e) = rw (e, upd-same) good
-      node n l h (no e) = rw (upd-other (nodes s) m n p e) (shape-inners (fieldsOf s) (ok .fields .shape) n l (omega arith))
+      -- a made node is as it was
+      old : (n : ℕ) → n < m → upd (nodes s) m p n ≡ nodes s n
+      old n h = upd-other (nodes s) m n p (λ e. omega arith)
+
+      node : (n : ℕ) → 1 ≤ n → n < m + 1 → Dec (n ≡ m) → NodeOk (vars s) n (depthAbove (withCells c) n) (upd (nodes s) m p n)
+      node n l h (yes e) = rw (e, upd-same, old (parentN p) below) good
+      node n l h (no e) = rw (old n (omega arith), old (parentN (nodes s n)) (parents-made (fieldsOf s) (ok .fields .shape) n l (omega arith)))
+          (shape-inners (fieldsOf s) (ok .fields .shape) n l (omega arith))
 
   -- the tree has one node more, in
-  grown-seen : (c : ℕ → List ℕ) (w : What) → whatN p ≡ w → upN p ≡ some (focus s) → isIn (kindN p) ≡ true
+  grown-seen : (c : ℕ → List ℕ) (w : What) → whatN p ≡ w → upN p ≡ some (focus s) → depthN p ≡ depthUnder s → isIn (kindN p) ≡ true
       → viewF (withCells c) ≡ record {
-        tree = grow m (focus s) w m (view s .tree);
+        tree = grow m (focus s) w (depthUnder s) (view s .tree);
         focus = m;
         values = record { cell = λ y. asCell (bareC (c y)); stored = upd (view s .values .stored) m (asCell (storedN p)) };
         mode = upd (view s .mode) m true;
       }
   unfolding view viewF treeF fieldsOf
-  grown-seen c w what up inside = λ i. record {
+  grown-seen c w what up depth inside = λ i. record {
     tree = record {
       what = (through whatN (nodes s) m p ∙ ap (upd (λ n. whatN (nodes s n)) m) what) i;
       up = (through upN (nodes s) m p ∙ ap (upd (λ n. upN (nodes s n)) m) up) i;
-      rank = sym (upd-id (λ n. n) m m refl) i;
+      rank = (through depthN (nodes s) m p ∙ ap (upd (λ n. depthN (nodes s n)) m) depth) i;
     };
     focus = m;
     values = record { cell = λ y. asCell (bareC (c y)); stored = through (λ (q : List ℕ). asCell (storedN q)) (nodes s) m p i };
@@ -176,65 +194,71 @@ module _ (s : List ℕ) (ok : Sound s) (space : IsFull s → ⊥) where
   grown-vars p long = fields-number (growB s p) (wrote-grow s ok (space-left s ok space) p long .fields) 0
 
   -- the next number may become a child of the focus
-  pub can-grow : (w : What) → w ≢ blank → Growable (view s .tree) (nextOf s) (focus s) w (nextOf s)
-  unfolding view viewF treeF fieldsOf nextOf
+  pub can-grow : (w : What) → w ≢ blank → Growable (view s .tree) (nextOf s) (focus s) w (depthUnder s)
+  unfolding view viewF treeF fieldsOf nextOf depthUnder
   can-grow w is = record {
     proper = sound-view s ok .proper;
     fresh = ap whatN (blank-node (fieldsOf s) (of-buffer s (sound-fit s ok)) (ok .fields .shape) (made s) (omega arith)) ∙ what-blank;
     made = not-blank (fieldsOf s) (of-buffer s (sound-fit s ok)) (ok .fields .shape) (focus s) (ok .fields .shape .head .focus-made);
     is = is;
-    higher = ok .fields .shape .head .focus-made;
+    higher = omega arith;
   }
 
   -- ---- a wind
-  pub wind-becomes : (a b : ℕ) → Becomes s (windB s a b) (make (nextOf s) (wind a b) unbound (nextOf s) (view s))
-  unfolding windB nextOf fieldsOf isIn view viewF
+  pub wind-becomes : (a b : ℕ) → Becomes s (windB s a b) (make (nextOf s) (wind a b) unbound (depthUnder s) (view s))
+  unfolding windB nextOf fieldsOf isIn view viewF depthUnder
   wind-becomes a b =
-      let p : List ℕ = nodeB 5 (focus s) a b blankCell in
+      let p : List ℕ = nodeB 5 (focus s) a b blankCell (depthUnder s) in
       let room-left = space-left s ok space in
-      let long : length p ≡ nodeSize = node-length 5 (focus s) a b blankCell in
-      let kind : kindN p ≡ 5 = node-kind 5 (focus s) a b blankCell in
-      let up : parentN p ≡ focus s = node-parent 5 (focus s) a b blankCell in
-      let stored : storedN p ≡ blankCell = node-stored 5 (focus s) a b blankCell refl in
+      let long : length p ≡ nodeSize = node-length 5 (focus s) a b blankCell (depthUnder s) in
+      let kind : kindN p ≡ 5 = node-kind 5 (focus s) a b blankCell (depthUnder s) in
+      let up : parentN p ≡ focus s = node-parent 5 (focus s) a b blankCell (depthUnder s) in
+      let below : parentN p < made s = omega (arith, ok .fields .shape .head .focus-made) in
+      let depth : depthN p ≡ depthUnder s = node-depth 5 (focus s) a b blankCell (depthUnder s) in
+      let stored : storedN p ≡ blankCell = node-stored 5 (focus s) a b blankCell (depthUnder s) refl in
       let is : IsWind (kindN p) = omega arith in
-      let what : whatN p ≡ wind a b = what-wind p is ∙ (λ i. wind (node-var 5 (focus s) a b blankCell i) (node-post 5 (focus s) a b blankCell i)) in
-      let good : NodeOk (vars s) (made s) p = record {
+      let what : whatN p ≡ wind a b = what-wind p is ∙ (λ i. wind (node-var 5 (focus s) a b blankCell (depthUnder s) i) (node-post 5 (focus s) a b blankCell (depthUnder s) i)) in
+      let good : NodeOk (vars s) (made s) (depthN (nodes s (parentN p))) p = record {
         node = inr is;
-        parent = omega (arith, ok .fields .shape .head .focus-made);
+        parent = below;
+        depth = depth ∙ ap (λ (n : ℕ). suc (depthN (nodes s n))) (sym up);
         var = λ z. absurd (not-both z is);
         zero = λ z. absurd (not-both z is);
         stored = λ z. absurd (not-both z is);
         still = λ z. stored;
       } in
-      becomes (make (made s) (wind a b) unbound (made s) (view s)) ok (wrote-grow s ok room-left p long) refl refl
-      (grown-shape s ok room-left p long good (cells s) (ok .fields .shape .cells))
-      (grown-seen s ok room-left p long (cells s) (wind a b) what (up-node p (inr is) ∙ ap some up) (inside kind) ∙ (rw (stored, as-blank, upd-same (view s .tree .what) (made s) (wind a b))))
+      becomes (make (made s) (wind a b) unbound (depthUnder s) (view s)) ok (wrote-grow s ok room-left p long) refl refl
+      (grown-shape s ok room-left p long below good (cells s) (ok .fields .shape .cells))
+      (grown-seen s ok room-left p long (cells s) (wind a b) what (up-node p (inr is) ∙ ap some up) depth (inside kind) ∙ (rw (stored, as-blank, upd-same (view s .tree .what) (made s) (wind a b))))
       (make-sound unbound (view s) (sound-view s ok) (can-grow (wind a b) (is-wind a b refl)))
     where
       inside : {k : ℕ} → k ≡ 5 → isIn k ≡ true
       inside e = rw e
 
   -- ---- a binding: the new node stores the cell of its variable, and the cell takes the value
-  pub bind-becomes : (x : ℕ) → x < vars s → (v : ℤ) → SFits w32 v → Becomes s (bindB s x v) (make (nextOf s) (binding x) (value v) (nextOf s) (view s))
-  unfolding bindB nextOf fieldsOf isIn view viewF
+  pub bind-becomes : (x : ℕ) → x < vars s → (v : ℤ) → SFits w32 v → Becomes s (bindB s x v) (make (nextOf s) (binding x) (value v) (depthUnder s) (view s))
+  unfolding bindB nextOf fieldsOf isIn view viewF depthUnder
   bind-becomes x known v fits =
       let f : ℕ = focus s in
       let c : List ℕ = bareC (cells s x) in
-      let p : List ℕ = nodeB 3 f x 0 c in
+      let p : List ℕ = nodeB 3 f x 0 c (depthUnder s) in
       let room-left = space-left s ok space in
       let fit : Fit s = sound-fit s ok in
-      let long : length p ≡ nodeSize = node-length 3 f x 0 c in
-      let kind : kindN p ≡ 3 = node-kind 3 f x 0 c in
-      let up : parentN p ≡ f = node-parent 3 f x 0 c in
-      let var : varN p ≡ x = node-var 3 f x 0 c in
-      let stored : storedN p ≡ c = node-stored 3 f x 0 c (bare-length (cells s x)) in
+      let long : length p ≡ nodeSize = node-length 3 f x 0 c (depthUnder s) in
+      let kind : kindN p ≡ 3 = node-kind 3 f x 0 c (depthUnder s) in
+      let up : parentN p ≡ f = node-parent 3 f x 0 c (depthUnder s) in
+      let below : parentN p < made s = omega (arith, ok .fields .shape .head .focus-made) in
+      let depth : depthN p ≡ depthUnder s = node-depth 3 f x 0 c (depthUnder s) in
+      let var : varN p ≡ x = node-var 3 f x 0 c (depthUnder s) in
+      let stored : storedN p ≡ c = node-stored 3 f x 0 c (depthUnder s) (bare-length (cells s x)) in
       let is : IsBinding (kindN p) = omega arith in
       let what : whatN p ≡ binding x = what-binding p is ∙ ap binding var in
-      let good : NodeOk (vars s) (made s) p = record {
+      let good : NodeOk (vars s) (made s) (depthN (nodes s (parentN p))) p = record {
         node = inl is;
-        parent = omega (arith, ok .fields .shape .head .focus-made);
+        parent = below;
+        depth = depth ∙ ap (λ (n : ℕ). suc (depthN (nodes s n))) (sym up);
         var = λ z. omega arith;
-        zero = λ z. node-post 3 f x 0 c;
+        zero = λ z. node-post 3 f x 0 c (depthUnder s);
         stored = λ z. rw stored (ok .fields .shape .cells x known);
         still = λ z. absurd (not-both is z);
       } in
@@ -246,16 +270,16 @@ module _ (s : List ℕ) (ok : Sound s) (space : IsFull s → ⊥) where
       let q : List ℕ = taken s fit x known v in
       let all : Wrote s (setB t x v) (withCells s ok room-left p long (upd (cells s) x q)) =
       subst (λ (g : Fields). Wrote s (setB t x v) (cellF x (putC (g .cell x) (valueC v)) g)) (w .fields) (then w (wrote-set t fit′ x known′ v)) in
-      let bytes : setB t x v ≡ bindB s x v = ap (λ (d : List ℕ). setB (growB s (nodeB 3 f x 0 (bareC d))) x v) (cell-in s x known) in
-      subst (λ (u : List ℕ). Becomes s u (make (made s) (binding x) (value v) (made s) (view s))) bytes
-      (becomes (make (made s) (binding x) (value v) (made s) (view s)) ok all refl refl
-      (grown-shape s ok room-left p long good (upd (cells s) x q) (put-proper (cells s) (vars s) x q (ok .fields .shape .cells) (rw (taken-bare s fit x known v) (proper-value v))))
-      (grown-seen s ok room-left p long (upd (cells s) x q) (binding x) what (up-node p (inl is) ∙ ap some up) (inside kind)
-      ∙ rw (stored, cells-seen s ok x known v fits) (ap with-values (sym (make-binding (made s) x (value v) (made s) (view s)))))
+      let bytes : setB t x v ≡ bindB s x v = ap (λ (d : List ℕ). setB (growB s (nodeB 3 f x 0 (bareC d) (depthUnder s))) x v) (cell-in s x known) in
+      subst (λ (u : List ℕ). Becomes s u (make (made s) (binding x) (value v) (depthUnder s) (view s))) bytes
+      (becomes (make (made s) (binding x) (value v) (depthUnder s) (view s)) ok all refl refl
+      (grown-shape s ok room-left p long below good (upd (cells s) x q) (put-proper (cells s) (vars s) x q (ok .fields .shape .cells) (rw (taken-bare s fit x known v) (proper-value v))))
+      (grown-seen s ok room-left p long (upd (cells s) x q) (binding x) what (up-node p (inl is) ∙ ap some up) depth (inside kind)
+      ∙ rw (stored, cells-seen s ok x known v fits) (ap with-values (sym (make-binding (made s) x (value v) (depthUnder s) (view s)))))
       (make-sound (value v) (view s) (sound-view s ok) (can-grow (binding x) (is-binding x refl))))
     where
       inside : {k : ℕ} → k ≡ 3 → isIn k ≡ true
       inside e = rw e
 
       with-values : Values → store.Store
-      with-values d = record { tree = grow (made s) (focus s) (binding x) (made s) (view s .tree); focus = made s; values = d; mode = upd (view s .mode) (made s) true }
+      with-values d = record { tree = grow (made s) (focus s) (binding x) (depthUnder s) (view s .tree); focus = made s; values = d; mode = upd (view s .mode) (made s) true }

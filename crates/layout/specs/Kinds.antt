@@ -3,7 +3,7 @@
 -- their ranges too. Assumes nothing.
 use mathlib.Core.Path.{_≡_, refl, sym, ap, _∙_}
 use mathlib.Core.Logic.{_⊎_, inl, inr}
-use mathlib.Core.Bool.{Bool, true, false, cond, _||_}
+use mathlib.Core.Bool.{Bool, true, false, not, cond, _||_}
 use Prim.Native.Nat.{ℕ, zero, suc, _+_, _-_, _≤_, _<_}
 use native.Mathlib.Omega.{arith}
 use lib.Dec.{leb, eqb}
@@ -89,3 +89,19 @@ node-kind k is = go k (node-low k is) (node-high k is)
     go (suc (suc (suc (suc zero)))) l h = wind-out
     go (suc (suc (suc (suc (suc zero))))) l h = wind-in
     go (suc (suc (suc (suc (suc (suc k)))))) l h = absurd (omega arith)
+
+-- out, of a binding or a wind, is not in
+pub out-not-in : (k : ℕ) → Node k → isOut k ≡ not (isIn k)
+unfolding isOut isIn
+out-not-in _ binding-out = refl
+out-not-in _ binding-in = refl
+out-not-in _ wind-out = refl
+out-not-in _ wind-in = refl
+
+pub not-true : (b : Bool) → not b ≡ true → b ≡ false
+not-true true e = sym e
+not-true false e = refl
+
+pub not-false : (b : Bool) → not b ≡ false → b ≡ true
+not-false true e = refl
+not-false false e = sym e

@@ -25,3 +25,4 @@ pub mod Same
 pub mod RouteLaws
 pub mod EventLaws
 pub mod TellLaws
+pub mod FarLaws

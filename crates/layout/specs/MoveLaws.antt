@@ -15,16 +15,16 @@ use Rattle.rules.specs.Values.{Cell, Values, exchange}
 use Rattle.rules.specs.Store as store
 use Rattle.rules.specs.Store.{leave-sound, enter-sound}
 use Rattle.layout.specs.Limits.{cellSize, bareSize, nodeSize}
-use Rattle.layout.specs.Records.{vars, room, made, focus, withFocus, blankCell, ProperCell, cellOf, bareC, putC, nodeOf, withNode, withCell, kindN, parentN, varN, postN, storedN, turnN, swapN}
+use Rattle.layout.specs.Records.{vars, room, made, focus, withFocus, blankCell, ProperCell, cellOf, bareC, putC, nodeOf, withNode, withCell, kindN, parentN, varN, postN, storedN, depthN, turnN, swapN}
 use Rattle.layout.specs.Kinds.{byKind, isIn, leftKind, enteredKind, kind-binding, kind-wind, Node, binding-out, binding-in, wind-out, wind-in, node-kind, IsBinding, IsWind, not-both}
 use Rattle.layout.specs.Fields.{Fields, cells, nodes, fieldsOf, Fit, past, varsF, roomF, madeF, focusF}
 use Rattle.layout.specs.View.{asCell, whatN, upN, treeF, viewF, view}
-use Rattle.layout.specs.Sound.{NodeOk, HeadOk, Shape, SoundF, Sound}
+use Rattle.layout.specs.Sound.{NodeOk, depthAbove, HeadOk, Shape, SoundF, Sound}
 use Rattle.layout.specs.Writes.{swapB, turnB, moveB, leaveB, enterB, Turns}
 use Rattle.layout.specs.Becomes.{Kept, Becomes}
 use Rattle.layout.specs.Laws.{OfBuffer, of-buffer, node-in, cell-in, Wrote, nodeF, cellF, headF, fields-number, wrote-node, wrote-cell, wrote-head, wrote-fit, then}
 use Rattle.layout.specs.RecordLaws.{put-length, turn-length, swap-length, bare-length, stored-length, bare-put, SameNode, turn-kind, turn-same, turn-stored, swap-kind, swap-same, swap-stored}
-use Rattle.layout.specs.SoundLaws.{what-binding, what-wind, up-node, inner-up, up-inner, shape-proper, seen-sound, sound-fit, sound-view, shape-inners, shape-blanks, shape-by-numbers}
+use Rattle.layout.specs.SoundLaws.{what-binding, what-wind, up-node, inner-up, up-inner, shape-proper, seen-sound, sound-fit, sound-view, shape-inners, parents-made, shape-blanks, shape-by-numbers}
 
 -- ---- functions through a change at one place
 module _ {B : Type 0} (h : List ℕ → B) (g : ℕ → List ℕ) (n : ℕ) (p : List ℕ) where
@@ -84,7 +84,7 @@ module _ (f : Fields) (buffer : OfBuffer f) (n k g : ℕ) where
       let stored : storedN p ≡ bareC (f .cell x) = swap-stored k was (bareC (f .cell x)) long (bare-length (f .cell x)) in
       let bare : bareC (putC (f .cell x) (storedN was)) ≡ storedN was = bare-put (f .cell x) (storedN was) (buffer .cell-long x) (stored-length was) in
       rw (what-binding was a) λ i. record {
-        tree = record { what = unseen whatN (f .node) n p (same-what p was same alike) i; up = unseen upN (f .node) n p (same-up p was same alike) i; rank = λ m. m };
+        tree = record { what = unseen whatN (f .node) n p (same-what p was same alike) i; up = unseen upN (f .node) n p (same-up p was same alike) i; rank = unseen depthN (f .node) n p (same .depth) i };
         focus = g;
         values = record {
           cell = (through (λ (q : List ℕ). asCell (bareC q)) (f .cell) x (putC (f .cell x) (storedN was)) ∙ ap (λ (c : List ℕ). upd (λ (y : ℕ). asCell (bareC (f .cell y))) x (asCell c)) bare) i;
@@ -102,7 +102,7 @@ module _ (f : Fields) (buffer : OfBuffer f) (n k g : ℕ) where
       let alike : Alike (kindN p) (kindN was) = inr (rw kind b, a) in
       let same : SameNode p was = turn-same k was long in
       rw (what-wind was a) λ i. record {
-        tree = record { what = unseen whatN (f .node) n p (same-what p was same alike) i; up = unseen upN (f .node) n p (same-up p was same alike) i; rank = λ m. m };
+        tree = record { what = unseen whatN (f .node) n p (same-what p was same alike) i; up = unseen upN (f .node) n p (same-up p was same alike) i; rank = unseen depthN (f .node) n p (same .depth) i };
         focus = g;
         values = record {
           cell = λ y. asCell (bareC (f .cell y));
@@ -125,10 +125,14 @@ module _ (f : Fields) (buffer : OfBuffer f) (n k g : ℕ) where
     }
 
     -- a node p in place of n, as good as it was
-    nodes-kept : (p : List ℕ) → NodeOk (varsF f) n p → (m : ℕ) → 1 ≤ m → m < madeF f → NodeOk (varsF f) m (upd (f .node) n p m)
-    nodes-kept p h m a b = go (ℕ-discrete m n)
+    nodes-kept : (p : List ℕ) → depthN p ≡ depthN was → NodeOk (varsF f) n (depthN (f .node (parentN p))) p
+        → (m : ℕ) → 1 ≤ m → m < madeF f → NodeOk (varsF f) m (depthAbove (nodeF n p f) m) (upd (f .node) n p m)
+    nodes-kept p deep h m a b = subst (λ (d : ℕ). NodeOk (varsF f) m d (upd (f .node) n p m)) (sym (depths _)) (go (ℕ-discrete m n))
       where
-        go : Dec (m ≡ n) → NodeOk (varsF f) m (upd (f .node) n p m)
+        depths : (k : ℕ) → depthN (upd (f .node) n p k) ≡ depthN (f .node k)
+        depths k = ap (λ (g : ℕ → ℕ). g k) (unseen depthN (f .node) n p deep)
+
+        go : Dec (m ≡ n) → NodeOk (varsF f) m (depthN (f .node (parentN (upd (f .node) n p m)))) (upd (f .node) n p m)
         go (yes e) = rw (e, upd-same) h
         go (no e) = rw (upd-other (f .node) n m p e) (shape-inners f ok m a b)
 
@@ -151,9 +155,10 @@ module _ (f : Fields) (buffer : OfBuffer f) (n k g : ℕ) where
         shape-by-numbers (headF 3 g (swapF f n k)) (head-kept (ok .head))
         (cells-kept x (putC (f .cell x) (storedN was)) (rw bare (o .stored a)))
         (upd-other (f .node) n 0 p (λ e. omega arith) ∙ ok .top)
-        (nodes-kept p record {
+        (nodes-kept p (same .depth) record {
           node = rw kind (inl b);
           parent = omega (arith, same .parent, o .parent);
+          depth = same .depth ∙ rw (← (same .parent)) at (o .depth);
           var = λ z. omega (arith, same .var, o .var a);
           zero = λ z. same .post ∙ o .zero a;
           stored = λ z. rw stored (ok .cells x (o .var a));
@@ -170,9 +175,10 @@ module _ (f : Fields) (buffer : OfBuffer f) (n k g : ℕ) where
         let o = shape-inners f ok n inner below in
         shape-by-numbers (headF 3 g (windF f n k)) (head-kept (ok .head)) (ok .cells)
         (upd-other (f .node) n 0 p (λ e. omega arith) ∙ ok .top)
-        (nodes-kept p record {
+        (nodes-kept p (same .depth) record {
           node = rw kind (inr b);
           parent = omega (arith, same .parent, o .parent);
+          depth = same .depth ∙ rw (← (same .parent)) at (o .depth);
           var = λ z. absurd (not-both (rw kind at z) b);
           zero = λ z. absurd (not-both (rw kind at z) b);
           stored = λ z. absurd (not-both (rw kind at z) b);
@@ -223,7 +229,7 @@ module _ (s : List ℕ) (ok : Sound s) (n : ℕ) (inner : 1 ≤ n) (below : n < 
   shape : Shape (fieldsOf s)
   shape = ok .fields .shape
 
-  node-ok : NodeOk (vars s) n (nodes s n)
+  node-ok : NodeOk (vars s) n (depthAbove (fieldsOf s) n) (nodes s n)
   unfolding fieldsOf
   node-ok = shape-inners (fieldsOf s) shape n inner below
 
@@ -286,7 +292,7 @@ module _ (s : List ℕ) (ok : Sound s) where
   unfolding view viewF treeF fieldsOf
   inner n p e =
       let (l, h, q) = inner-up (fieldsOf s) (of-buffer s (sound-fit s ok)) (ok .fields .shape) n p e in
-      (l, h, q, omega (arith, shape-inners (fieldsOf s) (ok .fields .shape) n l h .parent))
+      (l, h, q, omega (arith, parents-made (fieldsOf s) (ok .fields .shape) n l h))
 
   kind-of : (n : ℕ) → 1 ≤ n → n < made s → Node (kindN (nodes s n))
   kind-of n l h = node-kind (kindN (nodes s n)) (node-ok s ok n l h .node)

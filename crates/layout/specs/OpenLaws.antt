@@ -18,7 +18,7 @@ use Rattle.rules.specs.Calls.{valueAt, openWhat, opened, open-values}
 use Rattle.layout.specs.Limits.{maxVars, maxNodes, header, cellSize, bareSize, nodeSize, cellAt, nodeAt, sizeOf}
 use Rattle.layout.specs.Bytes.{part, splice, u16, part-length, part-at, part-left, part-right}
 use Rattle.layout.specs.Opening.{OpenFits, topCells}
-use Rattle.layout.specs.Records.{headOf, headN, vars, room, made, focus, ProperCell, cellOf, bareC, topC, nodeOf, kindN, storedN, topNode, blankNode}
+use Rattle.layout.specs.Records.{headOf, headN, vars, room, made, focus, ProperCell, cellOf, bareC, topC, nodeOf, kindN, storedN, depthN, topNode, blankNode}
 use Rattle.layout.specs.Kinds.{isIn}
 use Rattle.layout.specs.Fields.{cells, nodes, fieldsOf, past}
 use Rattle.layout.specs.View.{asCell, whatN, upN, treeF, viewF, view}
@@ -27,7 +27,7 @@ use Rattle.layout.specs.Made.{IsMade}
 use Rattle.layout.specs.Writes.{headB, openB}
 use Rattle.layout.specs.Laws.{node-in, node-past, cell-in, cell-past, of-buffer}
 use Rattle.layout.specs.RecordLaws.{as-blank}
-use Rattle.layout.specs.SoundLaws.{what-top, what-blank, up-top, up-blank, in-top, in-blank, shape-by-numbers, modes-by-numbers, headed-fit}
+use Rattle.layout.specs.SoundLaws.{what-top, what-blank, up-top, up-blank, in-top, in-blank, depth-top, depth-blank, shape-by-numbers, modes-by-numbers, headed-fit}
 
 -- ---- an opened store t, with the bytes `rest` past its size
 pub record Opens (v n : ℕ) (tops rest t : List ℕ) : Type 0 where
@@ -37,7 +37,7 @@ pub record Opens (v n : ℕ) (tops rest t : List ℕ) : Type 0 where
   pub only-top : (a : ℕ) → IsMade t a → a ≡ 0
   pub focus : focus t ≡ 0
   pub values : (a x : ℕ) → x < v → valueAt (home (view t)) a x ≡ asCell (topC tops x)
-  pub seen : view t ≡ opened (λ m. m) (topCells v tops)
+  pub seen : view t ≡ opened (λ m. 0) (topCells v tops)
   pub past : past t ≡ rest
   pub long : length t ≡ sizeOf v n + length rest
 
@@ -185,13 +185,13 @@ module _ (v n : ℕ) (tops rest : List ℕ) (ok : OpenFits v n tops) where
   what-cond true = refl
   what-cond false = refl
 
-  seen-is : view t ≡ opened (λ m. m) (topCells v tops)
+  seen-is : view t ≡ opened (λ m. 0) (topCells v tops)
   unfolding view viewF treeF fieldsOf
   seen-is = λ i. record {
     tree = record {
       what = fun-ext (λ m. by-node whatN top blank what-top what-blank m ∙ what-cond (eqb m 0)) i;
       up = fun-ext (by-any upN none up-top up-blank) i;
-      rank = λ m. m;
+      rank = fun-ext (by-any depthN 0 depth-top depth-blank) i;
     };
     focus = focus-is i;
     values = record { cell = fun-ext cell-seen i; stored = fun-ext (by-any (λ p. asCell (storedN p)) unbound stored-top stored-blank) i };
@@ -204,7 +204,7 @@ module _ (v n : ℕ) (tops rest : List ℕ) (ok : OpenFits v n tops) where
 
   values-are : (a x : ℕ) → x < v → valueAt (home (view t)) a x ≡ asCell (topC tops x)
   unfolding topCells
-  values-are a x h = rw seen-is (open-values (λ m. m) (topCells v tops) a x ∙ rw (lt-ltb x v h))
+  values-are a x h = rw seen-is (open-values (λ m. 0) (topCells v tops) a x ∙ rw (lt-ltb x v h))
 
   module _ (proper : (x : ℕ) → x < v → ProperCell (topC tops x)) where
     cell-proper : (x : ℕ) → x < vars t → ProperCell (bareC (cells t x))

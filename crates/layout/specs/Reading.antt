@@ -1,7 +1,7 @@
 -- Reading from afar, on the bytes of a sound store: the climb to the binding that decides, the climb from the focus to the
 -- last binding below it, and the cell that holds its own value. The rules say that this cell is the deep rule's value
 -- (`peek-shows`); the laws here are what the loops cite. Assumes nothing.
-use mathlib.Core.Path.{_≡_, refl, sym, ap, _∙_}
+use mathlib.Core.Path.{_≡_, refl, sym, ap, subst, _∙_}
 use mathlib.Core.Logic.{_≢_, _⊎_, inl, inr, ⊎-elim}
 use mathlib.Core.Bool.{Bool, true, false, cond}
 use mathlib.Core.Option.{Option, none, some}
@@ -21,7 +21,7 @@ use Rattle.layout.specs.Records.{vars, room, focus, blankCell, ProperCel
 use Rattle.layout.specs.Kinds.{within, byKind, isOut, IsBinding}
 use Rattle.layout.specs.Fields.{nodes, fieldsOf, Fit}
 use Rattle.layout.specs.View.{asCell, whatN, upN, treeF, viewF, view}
-use Rattle.layout.specs.Sound.{NodeOk, Sound}
+use Rattle.layout.specs.Sound.{NodeOk, depthAbove, Sound}
 use Rattle.layout.specs.Made.{IsMade}
 use Rattle.layout.specs.Laws.{node-in, cell-in}
 use Rattle.layout.specs.SoundLaws.{what-binding, up-node, up-top, sound-fit, sound-headed, sound-view, shape-inners}
@@ -102,9 +102,9 @@ module _ (s : List ℕ) (ok : Sound s) where
   node-made : (n : ℕ) → IsMade s n → nodes s n ≡ nodeOf s n
   node-made n m = node-in s n (made-room s ok n m)
 
-  inner-ok : (n : ℕ) → 1 ≤ n → IsMade s n → NodeOk (vars s) n (nodeOf s n)
+  inner-ok : (n : ℕ) → 1 ≤ n → IsMade s n → NodeOk (vars s) n (depthAbove (fieldsOf s) n) (nodeOf s n)
   unfolding fieldsOf IsMade
-  inner-ok n l m = rw (node-made n m) at (shape-inners (fieldsOf s) (ok .fields .shape) n l m)
+  inner-ok n l m = subst (NodeOk (vars s) n (depthAbove (fieldsOf s) n)) (node-made n m) (shape-inners (fieldsOf s) (ok .fields .shape) n l m)
 
   top-is : nodeOf s 0 ≡ topNode
   unfolding fieldsOf
@@ -232,7 +232,7 @@ module _ (s : List ℕ) (ok : Sound s) where
       go (yes z) = inl (ap (λ (k : ℕ). storedN (nodeOf s k)) z ∙ ap storedN top-is ∙ stored-top)
       go (no z) = by-kind (inner-ok n (omega arith) m)
         where
-          by-kind : NodeOk (vars s) n (nodeOf s n) → ProperCell (storedN (nodeOf s n))
+          by-kind : {e : ℕ} → NodeOk (vars s) n e (nodeOf s n) → ProperCell (storedN (nodeOf s n))
           by-kind o = ⊎-elim (λ is. o .stored is) (λ is. inl (o .still is)) (o .node)
 
   -- a made node that is not out is the top, or in

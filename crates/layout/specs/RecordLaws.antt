@@ -13,7 +13,7 @@ use mir.ValLaws.{ofZ-fits, toZ-ofZ}
 use Rattle.rules.specs.Values.{Cell, unbound, value}
 use Rattle.layout.specs.Limits.{cellSize, bareSize, nodeSize}
 use Rattle.layout.specs.Bytes.{u16, tab, by-tab}
-use Rattle.layout.specs.Records.{blankCell, bitsC, valueC, bareC, putC, kindN, parentN, varN, postN, storedN, turnN, swapN, nodeB, topNode, blankNode}
+use Rattle.layout.specs.Records.{blankCell, bitsC, valueC, bareC, putC, kindN, parentN, varN, postN, storedN, depthN, turnN, swapN, nodeB, topNode, blankNode}
 use Rattle.layout.specs.View.{asCell}
 
 -- ---- lengths
@@ -41,9 +41,9 @@ pub value-length : (v : ℤ) → length (valueC v) ≡ bareSize
 unfolding valueC
 value-length v = refl
 
-pub node-length : (k up a b : ℕ) (c : List ℕ) → length (nodeB k up a b c) ≡ nodeSize
+pub node-length : (k up a b : ℕ) (c : List ℕ) (d : ℕ) → length (nodeB k up a b c d) ≡ nodeSize
 unfolding nodeB
-node-length k up a b c = refl
+node-length k up a b c d = refl
 
 -- ---- a cell's record
 pub bare-put : (p c : List ℕ) → length p ≡ cellSize → length c ≡ bareSize → bareC (putC p c) ≡ c
@@ -57,14 +57,15 @@ pub record SameNode (p q : List ℕ) : Type 0 where
   pub parent : parentN p ≡ parentN q
   pub var : varN p ≡ varN q
   pub post : postN p ≡ postN q
+  pub depth : depthN p ≡ depthN q
 
 pub turn-kind : (k : ℕ) (p : List ℕ) → length p ≡ nodeSize → kindN (turnN p k) ≡ k
 unfolding kindN turnN
 turn-kind k = by-tab nodeSize (λ p. kindN (turnN p k) ≡ k) (λ f. refl)
 
 pub turn-same : (k : ℕ) (p : List ℕ) → length p ≡ nodeSize → SameNode (turnN p k) p
-unfolding parentN varN postN turnN u16
-turn-same k = by-tab nodeSize (λ p. SameNode (turnN p k) p) (λ f. record { parent = refl; var = refl; post = refl })
+unfolding parentN varN postN depthN turnN u16
+turn-same k = by-tab nodeSize (λ p. SameNode (turnN p k) p) (λ f. record { parent = refl; var = refl; post = refl; depth = refl })
 
 pub turn-stored : (k : ℕ) (p : List ℕ) → length p ≡ nodeSize → storedN (turnN p k) ≡ storedN p
 unfolding storedN turnN
@@ -75,8 +76,8 @@ unfolding kindN swapN
 swap-kind k c = by-tab nodeSize (λ p. kindN (swapN p k c) ≡ k) (λ f. refl)
 
 pub swap-same : (k : ℕ) (c p : List ℕ) → length p ≡ nodeSize → SameNode (swapN p k c) p
-unfolding parentN varN postN swapN u16
-swap-same k c = by-tab nodeSize (λ p. SameNode (swapN p k c) p) (λ f. record { parent = refl; var = refl; post = refl })
+unfolding parentN varN postN depthN swapN u16
+swap-same k c = by-tab nodeSize (λ p. SameNode (swapN p k c) p) (λ f. record { parent = refl; var = refl; post = refl; depth = refl })
 
 pub swap-stored : (k : ℕ) (p c : List ℕ) → length p ≡ nodeSize → length c ≡ bareSize → storedN (swapN p k c) ≡ c
 unfolding storedN swapN
@@ -85,26 +86,30 @@ swap-stored k p c l e =
     (λ f. by-tab bareSize (λ (d : List ℕ). storedN (swapN (tab nodeSize f) k d) ≡ d) (λ g. refl)) p l c e
 
 -- ---- a whole node
-module _ (k up a b : ℕ) (c : List ℕ) where
-  pub node-kind : kindN (nodeB k up a b c) ≡ k
+module _ (k up a b : ℕ) (c : List ℕ) (d : ℕ) where
+  pub node-kind : kindN (nodeB k up a b c d) ≡ k
   unfolding kindN nodeB
   node-kind = refl
 
-  pub node-parent : parentN (nodeB k up a b c) ≡ up
+  pub node-parent : parentN (nodeB k up a b c d) ≡ up
   unfolding parentN nodeB u16
   node-parent = omega arith
 
-  pub node-var : varN (nodeB k up a b c) ≡ a
+  pub node-var : varN (nodeB k up a b c d) ≡ a
   unfolding varN nodeB u16
   node-var = omega arith
 
-  pub node-post : postN (nodeB k up a b c) ≡ b
+  pub node-post : postN (nodeB k up a b c d) ≡ b
   unfolding postN nodeB u16
   node-post = omega arith
 
-  pub node-stored : length c ≡ bareSize → storedN (nodeB k up a b c) ≡ c
+  pub node-stored : length c ≡ bareSize → storedN (nodeB k up a b c d) ≡ c
   unfolding storedN nodeB
-  node-stored e = by-tab bareSize (λ (d : List ℕ). storedN (nodeB k up a b d) ≡ d) (λ g. refl) c e
+  node-stored e = by-tab bareSize (λ (q : List ℕ). storedN (nodeB k up a b q d) ≡ q) (λ g. refl) c e
+
+  pub node-depth : depthN (nodeB k up a b c d) ≡ d
+  unfolding depthN nodeB u16
+  node-depth = omega arith
 
 -- ---- cells as values
 pub as-blank : asCell blankCell ≡ unbound

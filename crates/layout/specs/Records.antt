@@ -3,9 +3,9 @@
 -- Assumes nothing: these are definitions.
 use mathlib.Core.Path.{_≡_}
 use mathlib.Core.Logic.{_⊎_}
-use Prim.Native.Nat.{ℕ, _+_, _*_, _/_, _%_}
+use Prim.Native.Nat.{ℕ, _+_, _-_, _*_, _/_, _%_}
 use mathlib.Core.List.{List, [], _∷_}
-use lib.ListN.{getD, set}
+use lib.ListN.{getD, set, replicate}
 use lib.IntN.{ℤ}
 use mir.Syntax.{w32}
 use mir.Val.{ofZ}
@@ -100,6 +100,10 @@ postN p = u16 p 6
 unfoldable pub storedN : List ℕ → List ℕ
 storedN p = getD p 1 0 ∷ getD p 8 0 ∷ getD p 9 0 ∷ getD p 10 0 ∷ getD p 11 0 ∷ []
 
+-- the depth: 0 for the top (document 02, W3)
+unfoldable pub depthN : List ℕ → ℕ
+depthN p = u16 p 12
+
 -- a node with another kind, and with another kind and another stored cell
 unfoldable pub turnN : List ℕ → ℕ → List ℕ
 turnN p k = set p 0 k
@@ -107,15 +111,15 @@ turnN p k = set p 0 k
 unfoldable pub swapN : List ℕ → ℕ → List ℕ → List ℕ
 swapN p k c = set (set (set (set (set (set p 0 k) 1 (getD c 0 0)) 8 (getD c 1 0)) 9 (getD c 2 0)) 10 (getD c 3 0)) 11 (getD c 4 0)
 
--- a whole node: kind, parent, variable or prelude, zero or postlude, stored cell
-unfoldable pub nodeB : ℕ → ℕ → ℕ → ℕ → List ℕ → List ℕ
-nodeB k up a b c =
+-- a whole node: kind, parent, variable or prelude, zero or postlude, stored cell, depth
+unfoldable pub nodeB : ℕ → ℕ → ℕ → ℕ → List ℕ → ℕ → List ℕ
+nodeB k up a b c d =
     k ∷ getD c 0 0 ∷ up % 256 ∷ up / 256 ∷ a % 256 ∷ a / 256 ∷ b % 256 ∷ b / 256 ∷
-    getD c 1 0 ∷ getD c 2 0 ∷ getD c 3 0 ∷ getD c 4 0 ∷ []
+    getD c 1 0 ∷ getD c 2 0 ∷ getD c 3 0 ∷ getD c 4 0 ∷ d % 256 ∷ d / 256 ∷ []
 
 -- kind 1 and zero otherwise; all zero
 unfoldable pub topNode : List ℕ
-topNode = 1 ∷ 0 ∷ 0 ∷ 0 ∷ 0 ∷ 0 ∷ 0 ∷ 0 ∷ 0 ∷ 0 ∷ 0 ∷ 0 ∷ []
+topNode = 1 ∷ replicate (nodeSize - 1) 0
 
 unfoldable pub blankNode : List ℕ
-blankNode = 0 ∷ 0 ∷ 0 ∷ 0 ∷ 0 ∷ 0 ∷ 0 ∷ 0 ∷ 0 ∷ 0 ∷ 0 ∷ 0 ∷ []
+blankNode = replicate nodeSize 0

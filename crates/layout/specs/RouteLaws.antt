@@ -17,14 +17,14 @@ use Rattle.rules.specs.Tree.{What, blank, top, binding, wind, Tree, Proper, cli
 use Rattle.rules.specs.Far.{far, far-lift, far-sym, far-self}
 use Rattle.rules.specs.Moves.{Event, left, entered, nodeOf, eventOf, route, route-left, route-entered, route-length, trace, trace-append, isWind, winds, length-event, length-trace}
 use Rattle.layout.specs.Records as records
-use Rattle.layout.specs.Records.{made, focus, kindN, parentN, varN, postN}
+use Rattle.layout.specs.Records.{made, focus, kindN, parentN, varN, postN, depthN}
 use Rattle.layout.specs.Kinds.{byKind, within, isOut, IsWind}
-use Rattle.layout.specs.Fields.{fieldsOf}
+use Rattle.layout.specs.Fields.{fieldsOf, nodes}
 use Rattle.layout.specs.View.{whatN, treeF, viewF, view}
 use Rattle.layout.specs.Sound.{Sound}
 use Rattle.layout.specs.Made.{IsMade}
-use Rattle.layout.specs.Laws.{node-in}
-use Rattle.layout.specs.SoundLaws.{sound-view}
+use Rattle.layout.specs.Laws.{node-in, of-buffer}
+use Rattle.layout.specs.SoundLaws.{sound-fit, sound-view, depth-few}
 use Rattle.layout.specs.WalkLaws.{made-seen, seen-made, made-room, focus-made, seen-focus, out-up, in-above, parent-seen, parent-made}
 use Rattle.layout.specs.Routes.{firstOn, meet, Over, movesFrom, movesTo, leftEvents, enteredEvents, meeting, OnWay, Climbing}
 use Rattle.layout.specs.Events.{eventsFrom, eventsTo}
@@ -202,13 +202,19 @@ module _ (s : List ℕ) (ok : Sound s) where
       let (m, o) = meet-over t proper (focus s) a (made-seen s ok a h) in
       record { made = seen-made s ok (meeting s a) m; over = o }
 
-  -- a switch has fewer than 4,096 moves, and so few events
-  pub few-moves : (a : ℕ) → IsMade s a → movesTo s a < 4096
-  unfolding IsMade view viewF treeF fieldsOf
-  few-moves a h = omega (arith, moves-short t (focus s) a, ok .fields .shape .head)
+  -- between two environments there are at most 4,096 moves, and as few events
+  pub few-between : (a b : ℕ) → movesFrom s a b ≤ 4096
+  unfolding view viewF treeF fieldsOf
+  few-between a b = omega (arith, moves-short t a b, few a, few b, ok .fields .shape .head)
+    where
+      few : (n : ℕ) → depthN (nodes s n) ≤ made s
+      few n = depth-few (fieldsOf s) (of-buffer s (sound-fit s ok)) (ok .fields .shape) n
 
-  pub few-events : (a : ℕ) → IsMade s a → length (eventsTo s a) < 4096
-  few-events a h = omega (arith, few-moves a h, events-short t (focus s) a)
+  pub few-moves : (a : ℕ) → movesTo s a ≤ 4096
+  few-moves a = few-between (focus s) a
+
+  pub few-events : (a : ℕ) → length (eventsTo s a) ≤ 4096
+  few-events a = omega (arith, few-moves a, events-short t (focus s) a)
 
   -- ---- the climb from the target
   pub climbing-start : (a : ℕ) → IsMade s a → Climbing s a a 0 0

@@ -15,7 +15,7 @@ use mir.Syntax.{w32}
 use mir.Val.{Fits, ofZ, toZ}
 use mir.ValLaws.{ofZ-toZ}
 use Rattle.rules.specs.Basic.{eqb-self, on}
-use Rattle.rules.specs.Tree.{top, binding, wind, path, path-up, What, blank, Proper}
+use Rattle.rules.specs.Tree.{top, binding, wind, path, path-up, What, blank, Proper, ranks-once}
 use Rattle.rules.specs.Values.{unbound, value}
 use Rattle.rules.specs.Store as store
 use Rattle.rules.specs.Store.{home}
@@ -24,11 +24,11 @@ use Rattle.rules.specs.Meaning.{home-means}
 use Rattle.rules.specs.Effects.{SameDeep}
 use Rattle.layout.specs.Limits.{header, cellSize, bareSize, nodeSize, cellAt, nodeAt, sizeOf}
 use Rattle.layout.specs.Bytes.{part, part-at, part-length, u16, by-tab}
-use Rattle.layout.specs.Records.{headOf, headN, vars, room, made, focus, ProperCell, bitsC, cellOf, bareC, nodeOf, kindN, parentN, varN, postN, storedN, nodeB, topNode, blankNode}
+use Rattle.layout.specs.Records.{headOf, headN, vars, room, made, focus, ProperCell, bitsC, cellOf, bareC, nodeOf, kindN, parentN, varN, postN, storedN, depthN, nodeB, topNode, blankNode}
 use Rattle.layout.specs.Kinds.{isIn, Node, binding-out, binding-in, wind-out, wind-in, node-kind, IsBinding, IsWind, IsNode}
 use Rattle.layout.specs.Fields.{cells, nodes, fieldsOf, past}
 use Rattle.layout.specs.View.{asCell, whatN, upN, treeF, viewF, view}
-use Rattle.layout.specs.Sound.{NodeOk, Sound}
+use Rattle.layout.specs.Sound.{NodeOk, depthAbove, Sound}
 use Rattle.layout.specs.Writes.{headB}
 use Rattle.layout.specs.Events.{bit}
 use Rattle.layout.specs.Made.{IsMade}
@@ -36,7 +36,7 @@ use Rattle.layout.specs.Becomes.{Becomes}
 use Rattle.layout.specs.Laws.{of-buffer, node-in, cell-in, node-past, cell-past}
 use Rattle.layout.specs.RecordLaws.{bare-length, stored-length, as-blank}
 use Rattle.layout.specs.OpenLaws.{stored-top, stored-blank}
-use Rattle.layout.specs.SoundLaws.{what-binding, what-wind, up-node, Place, is-top, is-inner, is-blank, place, blank-node, sound-fit, sound-view, up-inner, what-top, what-blank, shape-inners, shape-blanks}
+use Rattle.layout.specs.SoundLaws.{what-binding, what-wind, up-node, Place, is-top, is-inner, is-blank, place, blank-node, sound-fit, sound-view, sound-ranked, up-inner, what-top, what-blank, shape-inners, shape-blanks}
 use Rattle.layout.specs.WalkLaws.{made-seen, seen-made}
 
 -- every number is below 256 (past the end `getD` gives 0)
@@ -65,13 +65,14 @@ head-again = by-tab header (λ p. BytesTo header p → headB (u16 p 0) (u16 p 2)
     low (f 4) (f 5) (b 4 (omega arith)) i ∷ high (f 4) (f 5) (b 4 (omega arith)) i ∷
     low (f 6) (f 7) (b 6 (omega arith)) i ∷ high (f 6) (f 7) (b 6 (omega arith)) i ∷ []
 
-node-again : (p : List ℕ) → length p ≡ nodeSize → BytesTo nodeSize p → nodeB (kindN p) (parentN p) (varN p) (postN p) (storedN p) ≡ p
-unfolding nodeB kindN parentN varN postN storedN u16
-node-again = by-tab nodeSize (λ p. BytesTo nodeSize p → nodeB (kindN p) (parentN p) (varN p) (postN p) (storedN p) ≡ p) λ f b. λ i.
+node-again : (p : List ℕ) → length p ≡ nodeSize → BytesTo nodeSize p → nodeB (kindN p) (parentN p) (varN p) (postN p) (storedN p) (depthN p) ≡ p
+unfolding nodeB kindN parentN varN postN storedN depthN u16
+node-again = by-tab nodeSize (λ p. BytesTo nodeSize p → nodeB (kindN p) (parentN p) (varN p) (postN p) (storedN p) (depthN p) ≡ p) λ f b. λ i.
     f 0 ∷ f 1 ∷ low (f 2) (f 3) (b 2 (omega arith)) i ∷ high (f 2) (f 3) (b 2 (omega arith)) i ∷
     low (f 4) (f 5) (b 4 (omega arith)) i ∷ high (f 4) (f 5) (b 4 (omega arith)) i ∷
     low (f 6) (f 7) (b 6 (omega arith)) i ∷ high (f 6) (f 7) (b 6 (omega arith)) i ∷
-    f 8 ∷ f 9 ∷ f 10 ∷ f 11 ∷ []
+    f 8 ∷ f 9 ∷ f 10 ∷ f 11 ∷
+    low (f 12) (f 13) (b 12 (omega arith)) i ∷ high (f 12) (f 13) (b 12 (omega arith)) i ∷ []
 
 bare-again : (p : List ℕ) → length p ≡ cellSize → bareC p ≡ p
 unfolding bareC
@@ -144,10 +145,11 @@ kind-wind _ wind-in h = refl
 pub record SeenAlike (p q : List ℕ) : Type 0 where
   pub what : whatN p ≡ whatN q
   pub up : upN p ≡ upN q
+  pub depth : depthN p ≡ depthN q
   pub mode : isIn (kindN p) ≡ isIn (kindN q)
   pub stored : asCell (storedN p) ≡ asCell (storedN q)
 
-module _ (v n : ℕ) (p q : List ℕ) (op : NodeOk v n p) (oq : NodeOk v n q) (lp : length p ≡ nodeSize) (lq : length q ≡ nodeSize)
+module _ (v n d e : ℕ) (p q : List ℕ) (op : NodeOk v n d p) (oq : NodeOk v n e q) (lp : length p ≡ nodeSize) (lq : length q ≡ nodeSize)
     (bp : BytesTo nodeSize p) (bq : BytesTo nodeSize q) (same : SeenAlike p q) where
   stored-bytes : (r : List ℕ) → BytesTo nodeSize r → BytesTo bareSize (storedN r)
   unfolding storedN
@@ -204,7 +206,7 @@ module _ (v n : ℕ) (p q : List ℕ) (op : NodeOk v n p) (oq : NodeOk v n q) (l
   node-once : p ≡ q
   node-once =
       let (k, v, o, c) = fields both in
-      sym (node-again p lp bp) ∙ (λ i. nodeB (k i) (parents i) (v i) (o i) (c i)) ∙ node-again q lq bq
+      sym (node-again p lp bp) ∙ (λ i. nodeB (k i) (parents i) (v i) (o i) (c i) (same .depth i)) ∙ node-again q lq bq
 
 -- ---- two sound buffers that are seen alike
 -- an element of equal parts
@@ -263,12 +265,13 @@ module _ (s t : List ℕ) (ok : Sound s) (ok′ : Sound t) (bytes : Bytes s) (by
       go (is-top e) = rw e (ok .fields .shape .top ∙ sym (ok′ .fields .shape .top))
       go (is-blank l) = shape-blanks (fieldsOf s) (ok .fields .shape) n l h ∙ sym (shape-blanks (fieldsOf t) (ok′ .fields .shape) n (omega (arith, makes)) h′)
       go (is-inner l k) =
-          node-once (vars s) n (nodes s n) (nodes t n) (shape-inners (fieldsOf s) (ok .fields .shape) n l k) (rw v (shape-inners (fieldsOf t) (ok′ .fields .shape) n l (omega (arith, makes))))
+          node-once (vars s) n (depthAbove (fieldsOf s) n) (depthAbove (fieldsOf t) n) (nodes s n) (nodes t n) (shape-inners (fieldsOf s) (ok .fields .shape) n l k) (rw v (shape-inners (fieldsOf t) (ok′ .fields .shape) n l (omega (arith, makes))))
           (of-buffer s (sound-fit s ok) .node-long n) (of-buffer t (sound-fit t ok′) .node-long n)
           (rw (node-in s n h) (part-bytes s (nodeAt (vars s) n) nodeSize bytes)) (rw (node-in t n h′) (part-bytes t (nodeAt (vars t) n) nodeSize bytes′))
           (record {
             what = ap (λ (w : store.Store). w .tree .what n) same;
             up = ap (λ (w : store.Store). w .tree .up n) same;
+            depth = ap (λ (w : store.Store). w .tree .rank n) same;
             mode = ap (λ (w : store.Store). w .mode n) same;
             stored = ap (λ (w : store.Store). w .values .stored n) same;
           })
@@ -336,7 +339,7 @@ module _ (s : List ℕ) (ok : Sound s) where
   unfolding view viewF treeF fieldsOf
   others-blank n other = go (place (made s) n)
     where
-      node : NodeOk (vars s) n (nodes s n) → IsNode (kindN (nodes s n)) → asCell (storedN (nodes s n)) ≡ unbound
+      node : {d : ℕ} → NodeOk (vars s) n d (nodes s n) → IsNode (kindN (nodes s n)) → asCell (storedN (nodes s n)) ≡ unbound
       node o (inl is) = absurd (other (varN (nodes s n)) (what-binding (nodes s n) is))
       node o (inr is) = ap asCell (o .still is) ∙ as-blank
 
@@ -350,7 +353,11 @@ module _ (s : List ℕ) (ok : Sound s) where
 module _ (s t : List ℕ) (ok : Sound s) (ok′ : Sound t) (same : SameDeep (home (view s)) (home (view t))) where
   trees : view s .tree ≡ view t .tree
   unfolding home view viewF treeF
-  trees = λ i. record { what = fun-ext (same .kinds) i; up = fun-ext (same .parents) i; rank = λ n. n }
+  trees = λ i. record {
+    what = fun-ext (same .kinds) i;
+    up = fun-ext (same .parents) i;
+    rank = fun-ext (ranks-once (view s .tree) (sound-view s ok .proper) (view t .tree) (sound-ranked s ok) (sound-ranked t ok′) (λ n. sym (same .parents n))) i;
+  }
 
   foci : view s .focus ≡ view t .focus
   unfolding home

@@ -2,13 +2,13 @@
 use mathlib.Core.Path.{_≡_}
 use mathlib.Core.Bool.{Bool, true, false}
 use mathlib.Core.Logic.{_⊎_}
-use Prim.Native.Nat.{ℕ, _≤_, _<_}
+use Prim.Native.Nat.{ℕ, suc, _≤_, _<_}
 use mathlib.Core.List.{List}
 use lib.ListN.{length}
 use Rattle.rules.specs.Basic.{on}
 use Rattle.rules.specs.Tree.{path}
 use Rattle.layout.specs.Limits.{maxVars, maxNodes, sizeOf}
-use Rattle.layout.specs.Records.{vars, room, made, focus, blankCell, ProperCell, bareC, kindN, parentN, varN, postN, storedN, topNode, blankNode}
+use Rattle.layout.specs.Records.{vars, room, made, focus, blankCell, ProperCell, bareC, kindN, parentN, varN, postN, storedN, depthN, topNode, blankNode}
 use Rattle.layout.specs.Kinds.{IsBinding, IsWind, IsNode, isIn}
 use Rattle.layout.specs.Fields.{Fields, fieldsOf, varsF, roomF, madeF, focusF}
 use Rattle.layout.specs.View.{treeF}
@@ -18,11 +18,13 @@ abbrev pub Says : Bool → Type 0 → Type 0
 Says true P = P
 Says false P = P → ⊥
 
--- the node n, where there are v variables: a binding or a wind, a parent below its own number, for a binding a variable below V,
--- zero in place of the postlude and a proper stored cell, for a wind a zero stored state and value
-pub record NodeOk (v n : ℕ) (p : List ℕ) : Type 0 where
+-- the node n, where there are v variables and its parent's depth is d: a binding or a wind, a parent below its own number, that
+-- depth plus 1 (document 02, W3), for a binding a variable below V, zero in place of the postlude and a proper stored cell, for a
+-- wind a zero stored state and value
+pub record NodeOk (v n d : ℕ) (p : List ℕ) : Type 0 where
   pub node : IsNode (kindN p)
   pub parent : parentN p < n
+  pub depth : depthN p ≡ suc d
   pub var : IsBinding (kindN p) → varN p < v
   pub zero : IsBinding (kindN p) → postN p ≡ 0
   pub stored : IsBinding (kindN p) → ProperCell (storedN p)
@@ -42,9 +44,13 @@ pub record HeadOk (v n made focus : ℕ) : Type 0 where
 abbrev pub CellsOk : Fields → Type 0
 CellsOk f = (x : ℕ) → x < varsF f → ProperCell (bareC (f .cell x))
 
+-- the depth of n's parent
+abbrev pub depthAbove : Fields → ℕ → ℕ
+depthAbove f n = depthN (f .node (parentN (f .node n)))
+
 -- every node but the top is all zero, or a node as above
 abbrev pub NodesOk : Fields → Type 0
-NodesOk f = (n : ℕ) → 1 ≤ n → n < roomF f → (f .node n ≡ blankNode) ⊎ NodeOk (varsF f) n (f .node n)
+NodesOk f = (n : ℕ) → 1 ≤ n → n < roomF f → (f .node n ≡ blankNode) ⊎ NodeOk (varsF f) n (depthAbove f n) (f .node n)
 
 -- the made numbers have no gap: the nodes from made on, and no others, are all zero
 abbrev pub NoGap : Fields → Type 0

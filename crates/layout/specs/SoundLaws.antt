@@ -1,5 +1,5 @@
--- A sound buffer is seen as a sound store of the rules, with the node's own number as the rank that falls towards the top.
--- Assumes nothing.
+-- A sound buffer is seen as a sound store of the rules, with the depth as the rank. Of the laws, `parents-made` alone leans on a
+-- parent being below its own number. Assumes nothing.
 use mathlib.Core.Path.{_≡_, refl, sym, ap, _∙_}
 use mathlib.Core.Logic.{_≢_, _⊎_, inl, inr}
 use mathlib.Core.Bool.{Bool, true, false}
@@ -9,15 +9,17 @@ use native.Mathlib.Omega.{arith}
 use native.Mathlib.Decide.{ℕ-discrete, decLt}
 use mathlib.Core.List.{List}
 use lib.ListN.{length}
-use Rattle.rules.specs.Basic.{on, some≢none}
-use Rattle.rules.specs.Tree.{What, blank, top, binding, wind, Tree, Proper, path, on-path-up}
+use Rattle.rules.specs.Basic.{on, clash, some≢none}
+use Rattle.rules.specs.Tree.{What, blank, top, binding, wind, Tree, Proper, Ranked, path, path-once, on-path-up, rank-depth}
+use Rattle.rules.specs.Modes.{count-on, count-le}
 use Rattle.rules.specs.Store as store
 use Rattle.layout.specs.Limits.{sizeOf}
-use Rattle.layout.specs.Records.{vars, room, made, focus, kindN, parentN, varN, postN, topNode, blankNode}
-use Rattle.layout.specs.Kinds.{IsBinding, IsWind, IsNode, byKind, isIn, kind-binding, kind-wind, kind-node}
+use Rattle.layout.specs.Bytes.{u16}
+use Rattle.layout.specs.Records.{vars, room, made, focus, kindN, parentN, varN, postN, depthN, topNode, blankNode}
+use Rattle.layout.specs.Kinds.{IsBinding, IsWind, IsNode, byKind, isIn, isOut, kind-binding, kind-wind, kind-node}
 use Rattle.layout.specs.Fields.{Fields, fieldsOf, Fit, roomF, madeF, focusF, varsF}
 use Rattle.layout.specs.View.{whatN, upN, treeF, viewF, view}
-use Rattle.layout.specs.Sound.{NodeOk, HeadOk, CellsOk, Shape, Ins, SoundF, Headed, Sound}
+use Rattle.layout.specs.Sound.{NodeOk, depthAbove, HeadOk, CellsOk, Shape, Ins, SoundF, Headed, Sound}
 use Rattle.layout.specs.Laws.{OfBuffer, of-buffer}
 
 -- ---- what a node's record says
@@ -49,9 +51,21 @@ pub up-blank : upN blankNode ≡ none
 unfolding upN blankNode kindN byKind
 up-blank = refl
 
+pub depth-top : depthN topNode ≡ 0
+unfolding depthN topNode u16
+depth-top = refl
+
+pub depth-blank : depthN blankNode ≡ 0
+unfolding depthN blankNode u16
+depth-blank = refl
+
 pub in-top : isIn (kindN topNode) ≡ false
 unfolding isIn topNode kindN
 in-top = refl
+
+pub out-top : isOut (kindN topNode) ≡ false
+unfolding isOut kindN topNode
+out-top = refl
 
 pub in-blank : isIn (kindN blankNode) ≡ false
 unfolding isIn blankNode kindN
@@ -77,7 +91,7 @@ place m n = go (ℕ-discrete n 0) (decLt n m)
 
 -- ---- the same by numbers: the inner nodes are those from 1 to made, and the blank ones those from made on
 abbrev pub InnersOk : Fields → Type 0
-InnersOk f = (n : ℕ) → 1 ≤ n → n < madeF f → NodeOk (varsF f) n (f .node n)
+InnersOk f = (n : ℕ) → 1 ≤ n → n < madeF f → NodeOk (varsF f) n (depthAbove f n) (f .node n)
 
 abbrev pub BlanksOk : Fields → Type 0
 BlanksOk f = (n : ℕ) → madeF f ≤ n → n < roomF f → f .node n ≡ blankNode
@@ -90,9 +104,12 @@ module _ (f : Fields) where
   pub shape-inners : Shape f → InnersOk f
   shape-inners ok n l h = go (ok .nodes n l (omega (arith, ok .head .made-high)))
     where
-      go : (f .node n ≡ blankNode) ⊎ NodeOk (varsF f) n (f .node n) → NodeOk (varsF f) n (f .node n)
+      go : (f .node n ≡ blankNode) ⊎ NodeOk (varsF f) n (depthAbove f n) (f .node n) → NodeOk (varsF f) n (depthAbove f n) (f .node n)
       go (inl e) = absurd (omega (arith, ok .no-gap n l (omega (arith, ok .head .made-high)) .0 e))
       go (inr o) = o
+
+  pub parents-made : Shape f → (n : ℕ) → 1 ≤ n → n < madeF f → parentN (f .node n) < madeF f
+  parents-made ok n l h = omega (arith, shape-inners ok n l h .parent)
 
   pub shape-blanks : Shape f → BlanksOk f
   shape-blanks ok n h l = ok .no-gap n (omega (arith, ok .head .made-low)) l .1 h
@@ -101,7 +118,7 @@ module _ (f : Fields) where
   shape-by-numbers head cells zeroth inners blanks =
       record { head = head; cells = cells; top = zeroth; nodes = λ n l h. nodes n l h (decLt n (madeF f)); no-gap = λ n l h. (gap n l, λ m. blanks n m h) }
     where
-      nodes : (n : ℕ) → 1 ≤ n → n < roomF f → Dec (n < madeF f) → (f .node n ≡ blankNode) ⊎ NodeOk (varsF f) n (f .node n)
+      nodes : (n : ℕ) → 1 ≤ n → n < roomF f → Dec (n < madeF f) → (f .node n ≡ blankNode) ⊎ NodeOk (varsF f) n (depthAbove f n) (f .node n)
       nodes n l h (yes m) = inr (inners n l m)
       nodes n l h (no m) = inl (blanks n (omega arith) h)
 
@@ -143,11 +160,15 @@ module _ (f : Fields) (buffer : OfBuffer f) (ok : Shape f) where
       go (is-inner l k) = (l, k, (let q = up-inner n l k in cc))
       go (is-blank b) = some≢none e (ap upN (blank-node n b) ∙ up-blank)
 
+  -- a node is one deeper than its parent
+  deeper : (n p : ℕ) → upN (f .node n) ≡ some p → depthN (f .node n) ≡ suc (depthN (f .node p))
+  deeper n p e = let (l, h, q) = inner-up n p e in shape-inners f ok n l h .depth ∙ ap (λ (m : ℕ). suc (depthN (f .node m))) q
+
   pub shape-proper : Proper (treeF (f .node))
   unfolding treeF
   shape-proper = record {
-    falls = λ a p e. let (l, h, q) = inner-up a p e in omega (arith, shape-inners f ok a l h .parent);
-    made-up = λ a p e. let (l, h, q) = inner-up a p e in not-blank p (omega (arith, shape-inners f ok a l h .parent));
+    falls = λ a p e. omega (arith, deeper a p e);
+    made-up = λ a p e. let (l, h, q) = inner-up a p e in not-blank p (omega (arith, parents-made f ok a l h));
     blank-up = λ a e. no-parent a e (place (madeF f) a);
     one-top = λ a e u. top-only a e u (place (madeF f) a);
   }
@@ -161,6 +182,31 @@ module _ (f : Fields) (buffer : OfBuffer f) (ok : Shape f) where
       top-only a e u (is-top z) = z
       top-only a e u (is-inner l h) = some≢none (up-inner a l h) u
       top-only a e u (is-blank b) = absurd (e (ap whatN (blank-node a b) ∙ what-blank))
+
+  pub shape-ranked : Ranked (treeF (f .node))
+  unfolding treeF
+  shape-ranked = record { at-top = λ a e. outer a e (place (madeF f) a); below = deeper }
+    where
+      outer : (a : ℕ) → upN (f .node a) ≡ none → Place (madeF f) a → depthN (f .node a) ≡ 0
+      outer a e (is-top z) = ap (λ (m : ℕ). depthN (f .node m)) z ∙ ap depthN (ok .top) ∙ depth-top
+      outer a e (is-inner l h) = some≢none (up-inner a l h) e
+      outer a e (is-blank b) = ap depthN (blank-node a b) ∙ depth-blank
+
+  -- a path lies among the made nodes
+  pub path-made : (a k : ℕ) → on k (path (treeF (f .node)) a) ≡ true → k < madeF f
+  unfolding treeF
+  path-made a k h = go (upN (f .node k)) refl
+    where
+      go : (o : Option ℕ) → upN (f .node k) ≡ o → k < madeF f
+      go none e = clash h (on-path-up (treeF (f .node)) shape-proper a k e)
+      go (some p) e = inner-up k p e .1
+
+  -- so no depth exceeds their number
+  pub depth-few : (a : ℕ) → depthN (f .node a) ≤ madeF f
+  unfolding treeF
+  depth-few a =
+      let t = treeF (f .node) in
+      omega (arith, rank-depth t shape-proper shape-ranked a, count-on (path t a) (madeF f) (path-once t shape-proper a) (path-made a), count-le (λ k. on k (path t a)) (madeF f))
 
   -- the top and the blanks are not in, and on no path
   outer-modes : (n : ℕ) → upN (f .node n) ≡ none → Place (madeF f) n → isIn (kindN (f .node n)) ≡ on n (path (treeF (f .node)) (focusF f))
@@ -204,3 +250,7 @@ sound-fit s h = headed-fit s (sound-headed s h)
 pub sound-view : (s : List ℕ) → Sound s → store.Sound (view s)
 unfolding view
 sound-view s h = seen-sound (fieldsOf s) (of-buffer s (sound-fit s h)) (h .fields)
+
+pub sound-ranked : (s : List ℕ) → Sound s → Ranked (view s .tree)
+unfolding view viewF
+sound-ranked s h = shape-ranked (fieldsOf s) (of-buffer s (sound-fit s h)) (h .fields .shape)

@@ -1,5 +1,5 @@
 -- Fields read as a store of the rules (document 01, "The bytes of a store"): what each node is, its parent, its mode, the
--- cells and the stored cells. The rank that falls towards the top is the node's own number.
+-- cells and the stored cells. The rank is the depth.
 -- Assumes nothing: these are definitions.
 use mathlib.Core.Bool.{Bool, true, false, cond}
 use mathlib.Core.Option.{Option, none, some}
@@ -12,7 +12,7 @@ use mir.Val.{toZ}
 use Rattle.rules.specs.Tree.{What, blank, top, binding, wind, Tree}
 use Rattle.rules.specs.Values.{Cell, unbound, value}
 use Rattle.rules.specs.Store.{Store}
-use Rattle.layout.specs.Records.{bitsC, bareC, kindN, parentN, varN, postN, storedN}
+use Rattle.layout.specs.Records.{bitsC, bareC, kindN, parentN, varN, postN, storedN, depthN}
 use Rattle.layout.specs.Kinds.{byKind, isIn}
 use Rattle.layout.specs.Fields.{Fields, fieldsOf, focusF}
 
@@ -27,7 +27,7 @@ unfoldable pub upN : List ℕ → Option ℕ
 upN p = byKind (kindN p) (some (parentN p)) (some (parentN p)) none none
 
 unfoldable pub treeF : (ℕ → List ℕ) → Tree
-treeF node = record { what = λ n. whatN (node n); up = λ n. upN (node n); rank = λ n. n }
+treeF node = record { what = λ n. whatN (node n); up = λ n. upN (node n); rank = λ n. depthN (node n) }
 
 unfoldable pub viewF : Fields → Store
 viewF f = record {

@@ -16,7 +16,7 @@ use Rattle.rules.specs.Store.{goto, goto-focus, goto-tree, goto-sound, goto-her
 use Rattle.rules.specs.Walk.{Turn, arrived, outside, above, turn, goto-out, goto-in, far-out, far-in}
 use Rattle.layout.specs.Limits.{nodeSize}
 use Rattle.layout.specs.Records.{vars, room, made, focus, nodeOf, withNode, kindN, parentN, swapN, topNode}
-use Rattle.layout.specs.Kinds.{isIn, isOut, kind-binding, kind-wind, Node, binding-out, binding-in, wind-out, wind-in, node-kind, IsNode}
+use Rattle.layout.specs.Kinds.{isIn, isOut, kind-binding, kind-wind, node-kind, out-not-in, not-true, not-false, IsNode}
 use Rattle.layout.specs.Fields.{Fields, fieldsOf, nodes, Fit, varsF, roomF}
 use Rattle.layout.specs.View.{whatN, upN, treeF, viewF, view}
 use Rattle.layout.specs.Sound.{Sound}
@@ -26,7 +26,7 @@ use Rattle.layout.specs.Becomes.{Kept, Becomes}
 use Rattle.layout.specs.Routes.{movesTo}
 use Rattle.layout.specs.Laws.{of-buffer, node-in, Wrote, wrote-node, wrote-fit, fields-number}
 use Rattle.layout.specs.RecordLaws.{swap-length, turn-same, swap-same}
-use Rattle.layout.specs.SoundLaws.{Place, is-top, is-inner, is-blank, place, what-blank, up-top, up-inner, blank-node, not-blank, sound-fit, sound-view, shape-inners}
+use Rattle.layout.specs.SoundLaws.{Place, is-top, is-inner, is-blank, place, what-blank, up-top, out-top, up-inner, blank-node, not-blank, sound-fit, sound-view, shape-inners}
 use Rattle.layout.specs.MoveLaws.{wrote-swap, wrote-wind, sound-turns, inner, leave-becomes, enter-becomes}
 
 -- ---- one after the other
@@ -80,26 +80,6 @@ turned s n k h = go (h .node)
         rw (kind-wind (kindN (nodeOf s n)) _ _ _ _ b)
         (turned-from n (wrote-wind s n k (h .fit) (h .below)) refl refl (h .fit) (h .below)
         (ap parentN (upd-same (nodes s) n _) ∙ turn-same k (nodes s n) long .parent))
-
--- ---- out, of a binding or a wind, is not in
-out-not-in : (k : ℕ) → Node k → isOut k ≡ not (isIn k)
-unfolding isOut isIn
-out-not-in _ binding-out = refl
-out-not-in _ binding-in = refl
-out-not-in _ wind-out = refl
-out-not-in _ wind-in = refl
-
-not-true : (b : Bool) → not b ≡ true → b ≡ false
-not-true true e = sym e
-not-true false e = refl
-
-not-false : (b : Bool) → not b ≡ false → b ≡ true
-not-false true e = refl
-not-false false e = sym e
-
-out-top : isOut (kindN topNode) ≡ false
-unfolding isOut kindN topNode
-out-top = refl
 
 module _ (s : List ℕ) (ok : Sound s) where
   abbrev seen : store.Store

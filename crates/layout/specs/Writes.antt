@@ -1,15 +1,15 @@
 -- What the code below the walk writes, in bytes: one move, a new node, a set, an opened store.
 -- Nothing here is a promise: the calls' promises speak of the view. Assumes nothing: these are definitions.
 use mathlib.Core.Bool.{Bool, true, false, cond}
-use Prim.Native.Nat.{ℕ, _+_, _-_, _*_, _/_, _%_, _≤_, _<_}
+use Prim.Native.Nat.{ℕ, suc, _+_, _-_, _*_, _/_, _%_, _≤_, _<_}
 use mathlib.Core.List.{List, [], _∷_, _++_}
 use lib.ListN.{length, drop, replicate}
 use lib.IntN.{ℤ}
 use Rattle.rules.specs.Moves.{Event}
 use Rattle.layout.specs.Limits.{nodeSize, eventSize}
-use Rattle.layout.specs.Records.{vars, room, made, focus, withFocus, withMade, blankCell, valueC, cellOf, withCell, bareC, putC, nodeOf, withNode, kindN, parentN, varN, storedN, turnN, swapN, nodeB, topNode}
+use Rattle.layout.specs.Records.{vars, room, made, focus, withFocus, withMade, blankCell, valueC, cellOf, withCell, bareC, putC, nodeOf, withNode, kindN, parentN, varN, storedN, depthN, turnN, swapN, nodeB, topNode}
 use Rattle.layout.specs.Kinds.{byKind, leftKind, enteredKind, IsBinding, IsNode}
-use Rattle.layout.specs.Fields.{Fit}
+use Rattle.layout.specs.Fields.{nodes, Fit}
 
 -- the cell of the binding n and its stored cell change places, and n's kind becomes k
 unfoldable pub swapB : List ℕ → ℕ → ℕ → List ℕ
@@ -43,16 +43,20 @@ pub record Turns (s : List ℕ) (n : ℕ) : Type 0 where
 unfoldable pub setB : List ℕ → ℕ → ℤ → List ℕ
 setB s x v = withCell s x (putC (cellOf s x) (valueC v))
 
+-- the depth of a child of the focus
+unfoldable pub depthUnder : List ℕ → ℕ
+depthUnder s = suc (depthN (nodes s (focus s)))
+
 -- a new node p, number = made, becomes the focus
 unfoldable pub growB : List ℕ → List ℕ → List ℕ
 growB s p = withFocus (withMade (withNode s (made s) p) (made s + 1)) (made s)
 
 -- a binding of x to v: it stores the cell of x, and the cell takes v
 unfoldable pub bindB : List ℕ → ℕ → ℤ → List ℕ
-bindB s x v = setB (growB s (nodeB 3 (focus s) x 0 (bareC (cellOf s x)))) x v
+bindB s x v = setB (growB s (nodeB 3 (focus s) x 0 (bareC (cellOf s x)) (depthUnder s))) x v
 
 unfoldable pub windB : List ℕ → ℕ → ℕ → List ℕ
-windB s p q = growB s (nodeB 5 (focus s) p q blankCell)
+windB s p q = growB s (nodeB 5 (focus s) p q blankCell (depthUnder s))
 
 -- ---- open: the header, the top cells as they were handed in, the top, blanks
 unfoldable pub headB : ℕ → ℕ → ℕ → ℕ → List ℕ

@@ -25,7 +25,7 @@ impl Store {
 
     pub const BARE: usize = 5;
 
-    pub const NODE: usize = 12;
+    pub const NODE: usize = 14;
 
     pub const EVENT: usize = 5;
 }

@@ -26,7 +26,7 @@ use Rattle.layout.specs.Made.{nextOf}
 use Rattle.layout.specs.Events.{eventsB, told, eventsTo}
 use Rattle.promises.specs.Answers.{Numbers, refusal}
 use Rattle.promises.specs.Tables.{Row, row, First, RisingFrom, Rising, rising-more, Lowest, first-lowest}
-use Rattle.promises.specs.Promises.{meaning, at, Answers, damagedRow, variableRow, environmentRow, valueRow, fullRow, roomRow, topRow, Told, Shows, LookPromise, PeekPromise, HerePromise, SetDone, SetPromise, BindDone, BindPromise, WindDone, WindPromise, SwitchDone, parentAt, GotoPromise, BackPromise, Openable, Opened, OpenPromise}
+use Rattle.promises.specs.Promises.{meaning, at, Answers, damagedRow, variableRow, environmentRow, valueRow, fullRow, roomRow, topRow, Told, Shows, LookPromise, PeekPromise, HerePromise, FarDone, FarPromise, SetDone, SetPromise, BindDone, BindPromise, WindDone, WindPromise, SwitchDone, parentAt, GotoPromise, BackPromise, Openable, Opened, OpenPromise}
 use Rattle.promises.specs.Stable.{sound-stable}
 
 -- what is promised of the call c from the store s and the trace t to s′ and t′, with the numbers n; where no trace is lent,
@@ -35,6 +35,7 @@ abbrev pub Promised : Call → List ℕ → List ℕ → List ℕ → List ℕ �
 Promised (Call.ask (Ask.look x)) s t s′ t′ n = LookPromise s x s′ n × (t′ ≡ t)
 Promised (Call.ask Ask.here) s t s′ t′ n = HerePromise s s′ n × (t′ ≡ t)
 Promised (Call.ask (Ask.peek a x)) s t s′ t′ n = PeekPromise s a x s′ n × (t′ ≡ t)
+Promised (Call.ask (Ask.far a b)) s t s′ t′ n = FarPromise s a b s′ n × (t′ ≡ t)
 Promised (Call.make (Child.bind x v)) s t s′ t′ n = BindPromise s x v s′ n × (t′ ≡ t)
 Promised (Call.make (Child.wind p q)) s t s′ t′ n = WindPromise s t p q s′ t′ n
 Promised (Call.set x v) s t s′ t′ n = SetPromise s x v s′ n × (t′ ≡ t)
@@ -72,6 +73,7 @@ abbrev pub AskDone : Ask → List ℕ → Numbers → Type 0
 AskDone (Ask.look x) s n = Shows s (focus s) x n
 AskDone Ask.here s n = Told n (pos (focus s)) 0 0
 AskDone (Ask.peek a x) s n = Shows s a x n
+AskDone (Ask.far a b) s n = FarDone s a b n
 
 -- what BindDone and WindDone say, of any new node
 pub record MakeDone (k : Child) (s t s′ t′ : List ℕ) (n : Numbers) : Type 0 where
@@ -100,6 +102,7 @@ asked : (q : Ask) (s t s′ t′ : List ℕ) (n : Numbers) → Promised (Call.as
 asked (Ask.look x) s t s′ t′ n (p, e) = (p .same, e, p .answers)
 asked Ask.here s t s′ t′ n (p, e) = (p .same, e, p .answers)
 asked (Ask.peek a x) s t s′ t′ n (p, e) = (p .same, e, p .answers)
+asked (Ask.far a b) s t s′ t′ n (p, e) = (p .same, e, p .answers)
 
 bound : {s t s′ t′ : List ℕ} {n : Numbers} (x : ℕ) (v : ℤ) → t′ ≡ t → BindDone s x v s′ n → MakeDone (Child.bind x v) s t s′ t′ n
 unfolding told eventsB

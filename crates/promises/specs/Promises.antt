@@ -13,6 +13,7 @@ use Rattle.rules.specs.Basic.{orTop}
 use Rattle.rules.specs.Tree.{What, binding, wind}
 use Rattle.rules.specs.Values.{Cell, unbound, value}
 use Rattle.rules.specs.Store.{Deep, home}
+use Rattle.rules.specs.Far.{Between}
 use Rattle.rules.specs.Moves.{Move, Event}
 use Rattle.rules.specs.Calls.{valueAt, decidedBy}
 use Rattle.rules.specs.Refusals.{setup, damaged, noVariable, noEnvironment, noValue, full, traceRoom, atTop}
@@ -105,7 +106,7 @@ pub record Opened (v n : ℕ) (tops s s′ : List ℕ) (out : Numbers) : Type 0 
 pub record OpenPromise (v n : ℕ) (tops s s′ : List ℕ) (out : Numbers) : Type 0 where
   pub answers : Answers (row setup (Openable v n tops s → ⊥) ∷ []) out (s′ ≡ s) (Opened v n tops s s′ out)
 
--- ---- look, peek, here: a value with its decider or the focus, and no byte of the store changed
+-- ---- look, peek, here, far: a value with its decider, the focus or a number, and no byte of the store changed
 pub record LookPromise (s : List ℕ) (x : ℕ) (s′ : List ℕ) (n : Numbers) : Type 0 where
   pub same : s′ ≡ s
   pub answers : Answers (damagedRow s ∷ variableRow s x ∷ valueRow s (focus s) x ∷ []) n (Unit {0}) (Shows s (focus s) x n)
@@ -117,6 +118,14 @@ pub record PeekPromise (s : List ℕ) (a x : ℕ) (s′ : List ℕ) (n : Numbers
 pub record HerePromise (s s′ : List ℕ) (n : Numbers) : Type 0 where
   pub same : s′ ≡ s
   pub answers : Answers (damagedRow s ∷ []) n (Unit {0}) (Told n (pos (focus s)) 0 0)
+
+-- how far a and b are apart: demand 3's number, with nothing moved
+abbrev pub FarDone : List ℕ → ℕ → ℕ → Numbers → Type 0
+FarDone s a b n = (k : ℕ) × Told n (pos k) 0 0 × Between (view s .tree) a b k
+
+pub record FarPromise (s : List ℕ) (a b : ℕ) (s′ : List ℕ) (n : Numbers) : Type 0 where
+  pub same : s′ ≡ s
+  pub answers : Answers (damagedRow s ∷ environmentRow s a ∷ environmentRow s b ∷ []) n (Unit {0}) (FarDone s a b n)
 
 -- ---- the calls that change the store leave a sound store of the same size, and no byte past the size changed
 pub record SetDone (s : List ℕ) (x : ℕ) (v : ℤ) (s′ : List ℕ) (n : Numbers) : Type 0 where

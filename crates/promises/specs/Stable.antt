@@ -41,20 +41,21 @@ module _ {P : Type 0} (twice : (P → ⊥) → ⊥) where
   proper : {c : List ℕ} → (P → ProperCell c) → ProperCell c
   proper {c} f = one-of (List-discrete ℕ-discrete c blankCell) (ℕ-discrete (getD c 0 0) 1) f
 
-  node-ok : {v n : ℕ} {p : List ℕ} → (P → NodeOk v n p) → NodeOk v n p
-  node-ok {v} {n} {p} f = record {
+  node-ok : {v n d : ℕ} {p : List ℕ} → (P → NodeOk v n d p) → NodeOk v n d p
+  node-ok {v} {n} {d} {p} f = record {
     node = one-of (between 2 (kindN p) 3) (between 4 (kindN p) 5) (λ q. f q .node);
     parent = at-most (λ q. f q .parent);
+    depth = numbers (λ q. f q .depth);
     var = λ h. at-most (λ q. f q .var h);
     zero = λ h. numbers (λ q. f q .zero h);
     stored = λ h. proper (λ q. f q .stored h);
     still = λ h. lists (λ q. f q .still h);
   }
 
-  blank-or-ok : {v n : ℕ} {p : List ℕ} → (P → (p ≡ blankNode) ⊎ NodeOk v n p) → (p ≡ blankNode) ⊎ NodeOk v n p
-  blank-or-ok {v} {n} {p} f = go (List-discrete ℕ-discrete p blankNode)
+  blank-or-ok : {v n d : ℕ} {p : List ℕ} → (P → (p ≡ blankNode) ⊎ NodeOk v n d p) → (p ≡ blankNode) ⊎ NodeOk v n d p
+  blank-or-ok {v} {n} {d} {p} f = go (List-discrete ℕ-discrete p blankNode)
     where
-      go : Dec (p ≡ blankNode) → (p ≡ blankNode) ⊎ NodeOk v n p
+      go : Dec (p ≡ blankNode) → (p ≡ blankNode) ⊎ NodeOk v n d p
       go (yes e) = inl e
       go (no e) = inr (node-ok (λ q. ⊎-elim (λ b. absurd (e b)) (λ o. o) (f q)))
 

@@ -18,7 +18,7 @@ use Rattle.rules.specs.Tree.{binding, wind}
 use Rattle.rules.specs.Values.{Cell, unbound, value}
 use Rattle.rules.specs.Store.{home, goto}
 use Rattle.rules.specs.Moves.{Move, route, route-length, trace}
-use Rattle.rules.specs.Route.{route-self}
+use Rattle.rules.specs.Route.{route-self, far-between}
 use Rattle.rules.specs.Calls.{deciderAt, decidedBy, valueAt, look-right, home-set, make, home-make, make-own, make-rest}
 use Rattle.rules.specs.Refusals.{setup}
 use Rattle.rules.specs.Demands.{goto-switches}
@@ -30,7 +30,7 @@ use Rattle.layout.specs.View.{asCell, view, viewF}
 use Rattle.layout.specs.Sound.{Sound}
 use Rattle.layout.specs.Made.{IsMade, nextOf, IsFull}
 use Rattle.layout.specs.Becomes.{Becomes}
-use Rattle.layout.specs.Routes.{movesTo}
+use Rattle.layout.specs.Routes.{movesFrom, movesTo}
 use Rattle.layout.specs.Events.{eventsFrom, eventsTo}
 use Rattle.layout.specs.Writes.{setB, bindB, windB, openB}
 use Rattle.layout.specs.Events.{told}
@@ -42,10 +42,10 @@ use Rattle.layout.specs.OpenLaws.{opens}
 use Rattle.layout.specs.GrowLaws.{set-becomes, bind-becomes, wind-becomes, can-grow, is-binding, is-wind}
 use Rattle.promises.specs.declared.Answer.the-variants.{Opened, Number, Made, Switched, Refused}
 use Rattle.promises.specs.declared.Refusal.the-variants.{Setup, Damaged, NoVariable, NoEnvironment, Unbound, Full, TraceRoom, Top}
-use Rattle.promises.specs.Answers.{Numbers, refusal, seen, numbers}
+use Rattle.promises.specs.Answers.{Numbers, refusal, done, seen, numbers}
 use Rattle.store.specs.Cells.{ofCell}
 use Rattle.promises.specs.Tables.{Row, row, First}
-use Rattle.promises.specs.Promises.{meaning, at, byAt, Answers, Shows, damagedRow, variableRow, environmentRow, valueRow, fullRow, roomRow, topRow, roomFor, entering, parentAt, Openable, Switches, LookPromise, PeekPromise, HerePromise, SetPromise, BindPromise, WindPromise, GotoPromise, BackPromise, OpenPromise}
+use Rattle.promises.specs.Promises.{meaning, at, byAt, Answers, Shows, damagedRow, variableRow, environmentRow, valueRow, fullRow, roomRow, topRow, roomFor, entering, parentAt, Openable, Switches, LookPromise, PeekPromise, FarPromise, HerePromise, SetPromise, BindPromise, WindPromise, GotoPromise, BackPromise, OpenPromise}
 
 -- ---- row by row: this one applies, and nothing is changed; this one does not; none is left, and the call is done
 module _ {rs : List Row} {Same Done : Type 0} where
@@ -192,6 +192,27 @@ module _ (s : List ℕ) (a x : ℕ) where
   unfolding at meaning
   peek-shown ok l made {n} {c} found =
       record { same = refl; answers = skip (λ h. h ok) (skip (λ h. omega arith) (skip (λ h. h made) (shows s a x c n (sym (found .value)) (found .by)))) }
+
+-- ---- far
+module _ (s : List ℕ) (a b : ℕ) where
+  pub far-damaged : (Sound s → ⊥) → FarPromise s a b s (numbers (Refused Damaged))
+  unfolding numbers
+  far-damaged no-store = record { same = refl; answers = give (damagedRow s) no-store (omega arith) tt }
+
+  pub far-unmade : Sound s → (IsMade s a → ⊥) → FarPromise s a b s (numbers (Refused NoEnvironment))
+  unfolding numbers
+  far-unmade ok h = record { same = refl; answers = skip (λ h. h ok) (give (environmentRow s a) h (omega arith) tt) }
+
+  pub far-unmade-2 : Sound s → IsMade s a → (IsMade s b → ⊥) → FarPromise s a b s (numbers (Refused NoEnvironment))
+  unfolding numbers
+  far-unmade-2 ok made h = record { same = refl; answers = skip (λ h. h ok) (skip (λ h. h made) (give (environmentRow s b) h (omega arith) tt)) }
+
+  pub far-done : Sound s → IsMade s a → IsMade s b → (k : ℕ) → k ≡ movesFrom s a b → FarPromise s a b s (numbers (Number k))
+  unfolding numbers
+  far-done ok made made′ k e =
+      let told : done (pos k) 0 0 ≡ done (pos (movesFrom s a b)) 0 0 = ap (λ (g : ℕ). done (pos g) 0 0) e in
+      let apart = far-between (view s .tree) (sound-view s ok .proper) a b (made-seen s ok a made) (made-seen s ok b made′) in
+      record { same = refl; answers = skip (λ h. h ok) (skip (λ h. h made) (skip (λ h. h made′) (finish refl (movesFrom s a b, told, apart)))) }
 
 -- ---- wind
 module _ (s t : List ℕ) (p q : ℕ) where

@@ -6,23 +6,29 @@ ghost use Prim.Native.Nat.{ℕ, _+_, _*_, _<_, _≤_};
 ghost use lib.ListN.{length, getD, replicate};
 ghost use Rattle.rules.specs.Modes.{count};
 ghost use Rattle.layout.specs.Limits.{bareSize, nodeSize};
-ghost use Rattle.layout.specs.Records.{vars, made, ProperCell, bareC, topC, kindN, varN, postN, storedN, blankCell, topNode};
-ghost use Rattle.layout.specs.CheckLaws.{modeF, Counted};
-ghost use Rattle.layout.specs.Fields.{Fit, fieldsOf};
-ghost use Rattle.layout.specs.Sound.{Says, NodeOk, HeadOk, Headed, CellsOk, Shape, Ins, Sound};
+ghost use Rattle.layout.specs.Records.{vars, made, ProperCell, bareC, topC, kindN, parentN, varN, postN, storedN, blankCell, topNode};
+ghost use Rattle.layout.specs.CheckLaws.{modeF, Counted, Rises, AllRise};
+ghost use Rattle.layout.specs.Fields.{Fit, fieldsOf, nodes};
+ghost use Rattle.layout.specs.Sound.{Says, NodeOk, depthAbove, HeadOk, Headed, CellsOk, Shape, Ins, Sound};
 ghost use Rattle.layout.specs.SoundLaws.{InnersOk, BlanksOk};
 use crate::kinds::is_in;
-use crate::number::u16_at;
+use crate::kinds::is_out;
 use crate::records::bare_of;
 use crate::records::cell;
+use crate::records::depth_in;
+use crate::records::depth_of;
 use crate::records::focus_of;
+use crate::records::kind_in;
 use crate::records::kind_of;
 use crate::records::made_of;
 use crate::records::node;
 use crate::records::node_at;
+use crate::records::parent_in;
 use crate::records::parent_of;
+use crate::records::post_in;
 use crate::records::room_of;
 use crate::records::stored_of;
+use crate::records::var_in;
 use crate::records::vars_of;
 use layout::Store;
 
@@ -129,7 +135,7 @@ fn top_ok(p: &[u8]) -> bool
     requires { ⌜ length (now p) ≡ nodeSize ⌝ }
     ensures { λ r. ⌜ Says r (now (p .entry) ≡ topNode) ⌝ }
 {
-    if p[0] != 1 {
+    if kind_in(p) != 1 {
         return false;
     }
     zeros(&p[1..])
@@ -140,29 +146,45 @@ fn binding_ok(p: &[u8], v: usize) -> bool
     requires { ⌜ length (now p) ≡ nodeSize ⌝ }
     ensures { λ r. ⌜ Says r ((varN (now (p .entry)) < v) × ((postN (now (p .entry)) ≡ 0) × ProperCell (storedN (now (p .entry))))) ⌝ }
 {
-    if v <= u16_at(p, 4) {
+    if v <= var_in(p) {
         return false;
     }
-    if u16_at(p, 6) != 0 {
+    if post_in(p) != 0 {
         return false;
     }
     proper(stored_of(p))
 }
 
-// The node n, where there are v variables.
-fn node_ok(p: &[u8], n: usize, v: usize) -> bool
-    requires { ⌜ length (now p) ≡ nodeSize ⌝ }
-    ensures { λ r. ⌜ Says r (NodeOk v n (now (p .entry))) ⌝ }
+// The node n, where there are v variables: its parent, its depth, and the rest by its kind.
+fn node_ok(s: &[u8], n: usize, v: usize) -> bool
+    requires { ⌜ Headed (now s) × (n < made (now s)) ⌝ }
+    ensures { λ r. ⌜ Says r (NodeOk v n (depthAbove (fieldsOf (now (s .entry))) n) (nodes (now (s .entry)) n)) ⌝ }
 {
-    if n <= u16_at(p, 2) {
+    let p = node(s, n);
+    let up = parent_in(p);
+    if n <= up {
         return false;
     }
-    let k = p[0];
+    if depth_in(p) != depth_of(s, up) + 1 {
+        return false;
+    }
+    let k = kind_in(p);
     match k {
         2..=3 => binding_ok(p, v),
         4..=5 => blank(stored_of(p)),
         _ => false,
     }
+}
+
+// Where the node n is in, its parent is in too, or the top.
+fn rises(s: &[u8], n: usize) -> bool
+    requires { ⌜ Headed (now s) × ((n < made (now s)) × (parentN (nodes (now s) n) < made (now s))) ⌝ }
+    ensures { λ r. ⌜ Says r (Rises (fieldsOf (now (s .entry))) n) ⌝ }
+{
+    if !is_in(kind_of(s, n)) {
+        return true;
+    }
+    !is_out(kind_of(s, parent_of(s, n)))
 }
 
 // What a pass over the nodes finds: whether all is as it should be, and then how many are in.
@@ -171,10 +193,10 @@ struct Pass {
     ins: usize,
 }
 
-// Nodes 1 to made-1, each looked at once.
+// Nodes 1 to made-1, each looked at once, with its parent.
 fn nodes_ok(s: &[u8]) -> Pass
     requires { ⌜ Headed (now s) ⌝ }
-    ensures { λ r. ⌜ Says (r .ok) (InnersOk (fieldsOf (now (s .entry)))) ⌝ }
+    ensures { λ r. ⌜ Says (r .ok) (InnersOk (fieldsOf (now (s .entry))) × AllRise (fieldsOf (now (s .entry)))) ⌝ }
     ensures { λ r. ⌜ (r .ok ≡ true → Counted (modeF (fieldsOf (now (s .entry)))) (made (now (s .entry))) (r .ins)) ⌝ }
 {
     let v = vars_of(s);
@@ -182,11 +204,13 @@ fn nodes_ok(s: &[u8]) -> Pass
     let mut ins = 0;
     let mut n = 1;
     while n < m {
-        let p = node(s, n);
-        if !node_ok(p, n, v) {
+        if !node_ok(s, n, v) {
             return Pass { ok: false, ins: 0 };
         }
-        if is_in(p[0]) {
+        if !rises(s, n) {
+            return Pass { ok: false, ins: 0 };
+        }
+        if is_in(kind_of(s, n)) {
             ins += 1;
         }
         n += 1;
@@ -204,10 +228,10 @@ fn blanks_ok(s: &[u8]) -> bool
     zeros(&s[a..e])
 }
 
-// Every clause but the one on modes.
+// Every clause but the one on modes; of that, that above a node that is in all are in.
 fn shape_ok(s: &[u8]) -> Pass
     requires { ⌜ Headed (now s) ⌝ }
-    ensures { λ r. ⌜ Says (r .ok) (Shape (fieldsOf (now (s .entry)))) ⌝ }
+    ensures { λ r. ⌜ Says (r .ok) (Shape (fieldsOf (now (s .entry))) × AllRise (fieldsOf (now (s .entry)))) ⌝ }
     ensures { λ r. ⌜ (r .ok ≡ true → r .ins ≡ count (modeF (fieldsOf (now (s .entry)))) (made (now (s .entry)))) ⌝ }
 {
     if !cells_ok(s) {
@@ -222,22 +246,17 @@ fn shape_ok(s: &[u8]) -> Pass
     nodes_ok(s)
 }
 
-// From the focus up every node is in, and there are as many as are in at all: so exactly the path is in.
+// The focus is in or the top, so all of its path is in; and as many are in as it is deep: so exactly the path is in.
 fn ins_ok(s: &[u8], all: usize) -> bool
     requires { ⌜ Headed (now s) ⌝ }
-    requires { ⌜ Shape (fieldsOf (now s)) × (all ≡ count (modeF (fieldsOf (now s))) (made (now s))) ⌝ }
+    requires { ⌜ (Shape (fieldsOf (now s)) × AllRise (fieldsOf (now s))) × (all ≡ count (modeF (fieldsOf (now s))) (made (now s))) ⌝ }
     ensures { λ r. ⌜ Says r (Ins (fieldsOf (now (s .entry)))) ⌝ }
 {
-    let mut f = focus_of(s);
-    let mut n = 0;
-    while f > 0 {
-        if !is_in(kind_of(s, f)) {
-            return false;
-        }
-        n += 1;
-        f = parent_of(s, f);
+    let p = node(s, focus_of(s));
+    if is_out(kind_in(p)) {
+        return false;
     }
-    n == all
+    depth_in(p) == all
 }
 
 pub(crate) fn sound(s: &[u8]) -> bool

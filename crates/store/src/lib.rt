@@ -1,4 +1,4 @@
-// The store: bindings and winds on a tree in lent bytes, and the walk of its focus. Nine calls, and nothing else is public.
+// The store: bindings and winds on a tree in lent bytes, and the walk of its focus. Ten calls, and nothing else is public.
 ghost use mathlib.Core.Path.{_≡_};
 ghost use mathlib.Core.Bool.{Bool, true, false};
 ghost use mathlib.Core.List.{[], _∷_};
@@ -14,7 +14,7 @@ ghost use Rattle.layout.specs.Events.{eventsTo};
 ghost use Rattle.promises.specs.declared.Answer.the-variants as Answer;
 ghost use Rattle.promises.specs.Answers.{numbers};
 ghost use Rattle.store.specs.Cells.{ofCell};
-ghost use Rattle.promises.specs.Promises.{entering, roomRow, Switches, Openable, OpenPromise, BindPromise, WindPromise, LookPromise, SetPromise, HerePromise, GotoPromise, BackPromise, PeekPromise};
+ghost use Rattle.promises.specs.Promises.{entering, roomRow, Switches, Openable, OpenPromise, BindPromise, WindPromise, LookPromise, SetPromise, HerePromise, GotoPromise, BackPromise, PeekPromise, FarPromise};
 use layout::Store;
 use promises::Answer;
 use promises::New;
@@ -22,6 +22,7 @@ use promises::Refusal;
 use promises::Seen;
 use promises::Switch;
 
+mod apart;
 mod check;
 mod kinds;
 mod made;
@@ -150,6 +151,21 @@ pub fn peek(s: &[u8], a: u32, x: u32) -> Answer
     let found = read::find(s, b, y);
     let c = found.cell;
     answered(c, found.by)
+}
+
+// How far a and b are apart, with nothing moved.
+pub fn far(s: &[u8], a: u32, b: u32) -> Answer
+    ensures { λ r. ⌜ FarPromise (now (s .entry)) a b (now (s .exit)) (numbers r) ⌝ }
+{
+    if !check::sound(s) {
+        return Answer::Refused(Refusal::Damaged);
+    }
+    let c = a as usize;
+    let d = b as usize;
+    if !made::is_made(s, c) || !made::is_made(s, d) {
+        return Answer::Refused(Refusal::NoEnvironment);
+    }
+    Answer::Number(apart::between(s, c, d) as u16)
 }
 
 // A wind and its one event, entering p at the focus.

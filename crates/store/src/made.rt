@@ -7,7 +7,8 @@ ghost use lib.ListN.{length};
 ghost use Rattle.layout.specs.Records.{vars, made, room, focus, nodeB};
 ghost use Rattle.layout.specs.Sound.{Says, Sound};
 ghost use Rattle.layout.specs.Made.{IsMade, nextOf, IsFull};
-ghost use Rattle.layout.specs.Writes.{growB};
+ghost use Rattle.layout.specs.Writes.{depthUnder, growB};
+use crate::records::depth_of;
 use crate::records::focus_of;
 use crate::records::made_of;
 use crate::records::room_of;
@@ -49,10 +50,11 @@ pub(crate) fn is_full(s: &[u8]) -> bool
 // The next node: its kind, variable or prelude, zero or postlude, and stored cell; a child of the focus, and the new focus.
 pub(crate) fn grow(s: &mut [u8], n: usize, k: u8, a: usize, b: usize, c: [u8; Store::BARE])
     requires { ⌜ Sound (now s) × ((IsFull (now s) → ⊥) × ((n ≡ nextOf (now s)) × ((a < 65536) × (b < 65536)))) ⌝ }
-    ensures { λ _. ⌜ now (s .exit) ≡ growB (now (s .entry)) (nodeB k (focus (now (s .entry))) a b c) ⌝ }
+    ensures { λ _. ⌜ now (s .exit) ≡ growB (now (s .entry)) (nodeB k (focus (now (s .entry))) a b c (depthUnder (now (s .entry)))) ⌝ }
 {
     let f = focus_of(s);
-    set_node(s, n, k, f, a, b, c);
+    let d = depth_of(s, f) + 1;
+    set_node(s, n, k, f, a, b, c, d);
     set_made(s, n + 1);
     set_focus(s, n);
 }

@@ -58,14 +58,16 @@ fn leave(s: &mut [u8])
     set_focus(s, up);
 }
 
-// To the child n of the focus.
-fn enter(s: &mut [u8], n: usize)
+// To the child n of the focus. The number comes in two bytes, as the header has it: so its place is worked out here, and the walk
+// holds nothing of it while it calls itself.
+fn enter(s: &mut [u8], n: u16)
     requires { ⌜ Turns (now s) n ⌝ }
     ensures { λ _. ⌜ now (s .exit) ≡ enterB (now (s .entry)) n ⌝ }
 {
-    let k = kind_of(s, n);
-    turn(s, n, k + 1);
-    set_focus(s, n);
+    let c = n as usize;
+    let k = kind_of(s, c);
+    turn(s, c, k + 1);
+    set_focus(s, c);
 }
 
 // To a: a target that is out is entered after the focus has been brought to its parent; for a target that is in, the focus is
@@ -85,6 +87,6 @@ pub(crate) fn walk(s: &mut [u8], a: usize)
     }
     walk(s, to);
     if focus_of(s) != a {
-        enter(s, a);
+        enter(s, a as u16);
     }
 }

@@ -5,7 +5,7 @@ ghost use mathlib.Core.List.{List, [], _∷_};
 ghost use Prim.Native.Nat.{ℕ, _+_, _*_, _<_, _≤_};
 ghost use lib.ListN.{length, getD};
 ghost use Rattle.layout.specs.Limits.{header, cellSize, bareSize, nodeSize, cellAt, nodeAt};
-ghost use Rattle.layout.specs.Records.{headN, withHead, vars, room, made, focus, withFocus, withMade, cellOf, withCell, bareC, putC, nodeOf, withNode, kindN, parentN, varN, postN, storedN, turnN, swapN, nodeB};
+ghost use Rattle.layout.specs.Records.{headN, withHead, vars, room, made, focus, withFocus, withMade, cellOf, withCell, bareC, putC, nodeOf, withNode, kindN, parentN, varN, postN, storedN, depthN, turnN, swapN, nodeB};
 ghost use Rattle.layout.specs.Fields.{Fit};
 use crate::number::put16_at;
 use crate::number::u16_at;
@@ -129,34 +129,78 @@ pub(crate) fn node(s: &[u8], n: usize) -> &[u8]
     &s[a..e]
 }
 
+// What a node's part says: its kind, its parent, the variable or the prelude, zero or the postlude, the depth.
+
+pub(crate) fn kind_in(p: &[u8]) -> u8
+    requires { ⌜ length (now p) ≡ nodeSize ⌝ }
+    ensures { λ r. ⌜ r ≡ kindN (now (p .entry)) ⌝ }
+{
+    p[0]
+}
+
+pub(crate) fn parent_in(p: &[u8]) -> usize
+    requires { ⌜ length (now p) ≡ nodeSize ⌝ }
+    ensures { λ r. ⌜ (r ≡ parentN (now (p .entry))) × (r < 65536) ⌝ }
+{
+    u16_at(p, 2)
+}
+
+pub(crate) fn var_in(p: &[u8]) -> usize
+    requires { ⌜ length (now p) ≡ nodeSize ⌝ }
+    ensures { λ r. ⌜ (r ≡ varN (now (p .entry))) × (r < 65536) ⌝ }
+{
+    u16_at(p, 4)
+}
+
+pub(crate) fn post_in(p: &[u8]) -> usize
+    requires { ⌜ length (now p) ≡ nodeSize ⌝ }
+    ensures { λ r. ⌜ (r ≡ postN (now (p .entry))) × (r < 65536) ⌝ }
+{
+    u16_at(p, 6)
+}
+
+pub(crate) fn depth_in(p: &[u8]) -> usize
+    requires { ⌜ length (now p) ≡ nodeSize ⌝ }
+    ensures { λ r. ⌜ (r ≡ depthN (now (p .entry))) × (r < 65536) ⌝ }
+{
+    u16_at(p, 12)
+}
+
+// The same of the node n.
+
 pub(crate) fn kind_of(s: &[u8], n: usize) -> u8
     requires { ⌜ Fit (now s) × (n < room (now s)) ⌝ }
     ensures { λ r. ⌜ r ≡ kindN (nodeOf (now (s .entry)) n) ⌝ }
 {
-    let p = node(s, n);
-    p[0]
+    kind_in(node(s, n))
 }
 
 pub(crate) fn parent_of(s: &[u8], n: usize) -> usize
     requires { ⌜ Fit (now s) × (n < room (now s)) ⌝ }
     ensures { λ r. ⌜ (r ≡ parentN (nodeOf (now (s .entry)) n)) × (r < 65536) ⌝ }
 {
-    u16_at(node(s, n), 2)
+    parent_in(node(s, n))
 }
 
-// The variable or the prelude.
 pub(crate) fn var_of(s: &[u8], n: usize) -> usize
     requires { ⌜ Fit (now s) × (n < room (now s)) ⌝ }
     ensures { λ r. ⌜ (r ≡ varN (nodeOf (now (s .entry)) n)) × (r < 65536) ⌝ }
 {
-    u16_at(node(s, n), 4)
+    var_in(node(s, n))
 }
 
 pub(crate) fn post_of(s: &[u8], n: usize) -> usize
     requires { ⌜ Fit (now s) × (n < room (now s)) ⌝ }
     ensures { λ r. ⌜ (r ≡ postN (nodeOf (now (s .entry)) n)) × (r < 65536) ⌝ }
 {
-    u16_at(node(s, n), 6)
+    post_in(node(s, n))
+}
+
+pub(crate) fn depth_of(s: &[u8], n: usize) -> usize
+    requires { ⌜ Fit (now s) × (n < room (now s)) ⌝ }
+    ensures { λ r. ⌜ (r ≡ depthN (nodeOf (now (s .entry)) n)) × (r < 65536) ⌝ }
+{
+    depth_in(node(s, n))
 }
 
 // The stored cell in a node's part.
@@ -189,15 +233,16 @@ fn swap_node(p: &mut [u8], k: u8, c: [u8; Store::BARE]) -> [u8; Store::BARE]
     d
 }
 
-// A whole node: kind, parent, variable or prelude, zero or postlude, stored cell.
-fn put_node(p: &mut [u8], k: u8, up: usize, a: usize, b: usize, c: [u8; Store::BARE])
-    requires { ⌜ (length (now p) ≡ nodeSize) × ((up < 65536) × ((a < 65536) × (b < 65536))) ⌝ }
-    ensures { λ _. ⌜ now (p .exit) ≡ nodeB k up a b c ⌝ }
+// A whole node: kind, parent, variable or prelude, zero or postlude, stored cell, depth.
+fn put_node(p: &mut [u8], k: u8, up: usize, a: usize, b: usize, c: [u8; Store::BARE], d: usize)
+    requires { ⌜ (length (now p) ≡ nodeSize) × ((up < 65536) × ((a < 65536) × ((b < 65536) × (d < 65536)))) ⌝ }
+    ensures { λ _. ⌜ now (p .exit) ≡ nodeB k up a b c d ⌝ }
 {
     swap_node(p, k, c);
     put16_at(p, 2, up);
     put16_at(p, 4, a);
     put16_at(p, 6, b);
+    put16_at(p, 12, d);
 }
 
 pub(crate) fn turn_at(s: &mut [u8], n: usize, k: u8)
@@ -226,11 +271,12 @@ pub(crate) fn set_node(
     a: usize,
     b: usize,
     c: [u8; Store::BARE],
+    d: usize,
 )
-    requires { ⌜ Fit (now s) × ((n < room (now s)) × ((up < 65536) × ((a < 65536) × (b < 65536)))) ⌝ }
-    ensures { λ _. ⌜ now (s .exit) ≡ withNode (now (s .entry)) n (nodeB k up a b c) ⌝ }
+    requires { ⌜ Fit (now s) × ((n < room (now s)) × ((up < 65536) × ((a < 65536) × ((b < 65536) × (d < 65536))))) ⌝ }
+    ensures { λ _. ⌜ now (s .exit) ≡ withNode (now (s .entry)) n (nodeB k up a b c d) ⌝ }
 {
     let at = node_at(s, n);
     let e = at + Store::NODE;
-    put_node(&mut s[at..e], k, up, a, b, c);
+    put_node(&mut s[at..e], k, up, a, b, c, d);
 }

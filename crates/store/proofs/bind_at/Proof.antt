@@ -4,7 +4,7 @@ use mathlib.Core.Path.{_∙_}
 use mir.Syntax.{w32}
 use mir.ValLaws.{toZ-ofZ}
 use Rattle.layout.specs.Records.{focus, bareC, valueC, nodeB}
-use Rattle.layout.specs.Writes.{growB}
+use Rattle.layout.specs.Writes.{depthUnder, growB}
 use Prim.Native.Nat.{ℕ}
 use mathlib.Core.Path.{ap}
 use native.Mathlib.Omega.{arith}
@@ -36,8 +36,8 @@ set-cell-requires : tie.Need-set-cell-requires
 set-cell-requires c κs =
     let st = c .before .before .before .before .before .before .before .before .before .before .before .before in
     let s = st .args .s .now in
-    let p = nodeB 3 (focus s) (st .args .x) 0 (c .before .before .before .before .before .before .bare-of .result) in
-    let long = node-length 3 (focus s) (st .args .x) 0 (c .before .before .before .before .before .before .bare-of .result) in
+    let p = nodeB 3 (focus s) (st .args .x) 0 (c .before .before .before .before .before .before .bare-of .result) (depthUnder s) in
+    let long = node-length 3 (focus s) (st .args .x) 0 (c .before .before .before .before .before .before .bare-of .result) (depthUnder s) in
     rw (c .before .before .before .before .grow .ensures) (grown-fit s (st .pre .0) (st .pre .1 .1) p long, omega (arith, st .pre .1 .0, grown-vars s (st .pre .0) (st .pre .1 .1) p long))
 
 cast-t17 : tie.Need-cast-t17
@@ -53,7 +53,7 @@ returns c =
     let s = st .args .s .now in
     let x = st .args .x in
     let bare = c .before .before .before .before .before .before .before .before .before .bare-of .ensures ∙ ap bareC (c .before .before .before .before .before .before .before .before .before .before .cell .ensures .0) in
-    let node = c .before .before .before .before .before .before .before .grow .ensures ∙ ap (λ (d : List ℕ). growB s (nodeB 3 (focus s) x 0 d)) bare in
+    let node = c .before .before .before .before .before .before .before .grow .ensures ∙ ap (λ (d : List ℕ). growB s (nodeB 3 (focus s) x 0 d (depthUnder s))) bare in
     let new = c .before .before .before .value-cell .ensures ∙ ap valueC (toZ-ofZ w32 (st .args .v) (st .fits .v)) in (
       ap (λ (n : ℕ). Made (record { node = n; events = 0 })) (c .before .before .before .before .before .before .before .before .before .before .before .before .next-of .ensures .0),
       c .before .before .set-cell .ensures ∙ rw (node, new),

@@ -41,14 +41,14 @@ cast-t20 c = let (ok, made) = start (told (walked (c .before .before))) .pre in 
 cast-t21 : tie.Need-cast-t21
 cast-t21 c =
     let survey = told (walked (c .before .before .before)) in
-    let (ok, made) = start survey .pre in
-    record { fits = omega (arith, survey .survey .ensures .1 .0, few-moves _ ok _ made) }
+    let st = start survey in
+    record { fits = omega (arith, survey .survey .ensures .1 .0, few-moves _ (st .pre .0) (st .args .a)) }
 
 cast-t22 : tie.Need-cast-t22
 cast-t22 c =
     let survey = told (walked (c .before .before .before)) in
-    let (ok, made) = start survey .pre in
-    record { fits = omega (arith, survey .survey .ensures .1 .1, few-events _ ok _ made) }
+    let st = start survey in
+    record { fits = omega (arith, survey .survey .ensures .1 .1, few-events _ (st .pre .0) (st .args .a)) }
 
 same-length-2 : tie.Need-same-length-2
 same-length-2 c = c .before .before .before .walk .ensures .kept .long

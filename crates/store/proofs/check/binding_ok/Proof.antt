@@ -14,18 +14,16 @@ last : (v : ℕ) (p : List ℕ) (b : Bool) → varN p < v → postN p ≡ 0 → 
 last v p true l e h = (l, (e, h))
 last v p false l e h = λ q. h (q .1 .1)
 
-u16-at-requires : tie.Need-u16-at-requires
-u16-at-requires c κs = search needs
+var-in-requires : tie.Need-var-in-requires
+var-in-requires c κs = search needs
 
 returns : tie.Need-returns
-unfolding varN
 returns c = λ h. omega (arith, h .0)
 
-u16-at-requires-2 : tie.Need-u16-at-requires-2
-u16-at-requires-2 c κs = search needs
+post-in-requires : tie.Need-post-in-requires
+post-in-requires c κs = search needs
 
 returns-2 : tie.Need-returns-2
-unfolding postN
 returns-2 c = λ h. omega (arith, h .1 .0)
 
 stored-of-requires : tie.Need-stored-of-requires
@@ -35,7 +33,6 @@ proper-requires : tie.Need-proper-requires
 proper-requires c κs = search needs
 
 returns-3 : tie.Need-returns-3
-unfolding varN postN
 returns-3 c =
     let args = c .before .before .before .before .before .before .before .args in
     last (args .v) (args .p .now) (c .proper .result) (omega arith) (omega arith)
@@ -45,9 +42,9 @@ pub binding-ok-spec : {M : Type 1} → statement M
 binding-ok-spec =
     tie.close
     (tie.spec
-    u16-at-requires
+    var-in-requires
     returns
-    u16-at-requires-2
+    post-in-requires
     returns-2
     stored-of-requires
     proper-requires

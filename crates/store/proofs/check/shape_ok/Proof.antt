@@ -16,7 +16,7 @@ cells-ok-requires : tie.Need-cells-ok-requires
 cells-ok-requires c κs = search needs
 
 returns : tie.Need-returns
-returns c = (λ ok. refuted (c .before .cells-ok .result) (c .if1 .taken) (c .before .cells-ok .ensures) (ok .cells), λ e. clash e refl)
+returns c = (λ ok. refuted (c .before .cells-ok .result) (c .if1 .taken) (c .before .cells-ok .ensures) (ok .0 .cells), λ e. clash e refl)
 
 node-requires : tie.Need-node-requires
 unfolding fieldsOf
@@ -29,13 +29,13 @@ returns-2 : tie.Need-returns-2
 unfolding fieldsOf
 returns-2 c =
     let s = c .before .before .before .before .before .before .args .s .now in
-    (λ ok. refuted (c .before .top-ok .result) (c .if2 .taken) (c .before .top-ok .ensures) (c .before .before .node .ensures .0 ∙ sym (node-in s 0 (omega arith)) ∙ ok .top), λ e. clash e refl)
+    (λ ok. refuted (c .before .top-ok .result) (c .if2 .taken) (c .before .top-ok .ensures) (c .before .before .node .ensures .0 ∙ sym (node-in s 0 (omega arith)) ∙ ok .0 .top), λ e. clash e refl)
 
 blanks-ok-requires : tie.Need-blanks-ok-requires
 blanks-ok-requires c κs = search needs
 
 returns-3 : tie.Need-returns-3
-returns-3 c = (λ ok. refuted (c .before .blanks-ok .result) (c .if3 .taken) (c .before .blanks-ok .ensures) (shape-blanks _ ok), λ e. clash e refl)
+returns-3 c = (λ ok. refuted (c .before .blanks-ok .result) (c .if3 .taken) (c .before .blanks-ok .ensures) (shape-blanks _ (ok .0)), λ e. clash e refl)
 
 nodes-ok-requires : tie.Need-nodes-ok-requires
 nodes-ok-requires c κs = search needs
@@ -51,7 +51,7 @@ returns-4 c =
     let is-top : fieldsOf s .node 0 ≡ topNode = node-in s 0 (omega arith) ∙ sym (top .before .node .ensures .0) ∙ held (top .top-ok .result) (blanks .before .if2 .left) (top .top-ok .ensures) in
     let all : InnersOk (fieldsOf s) → Shape (fieldsOf s) = λ n. shape-by-numbers (fieldsOf s) (start .pre .head) (held (cells .cells-ok .result) (top .before .before .if1 .left) (cells .cells-ok .ensures)) is-top n
     (held (blanks .blanks-ok .result) (c .before .if3 .left) (blanks .blanks-ok .ensures)) in
-    (says-map (c .nodes-ok .result .ok) all (shape-inners (fieldsOf s)) (c .nodes-ok .ensures .0), λ e. counted-all (fieldsOf s) _ _ is-top (c .nodes-ok .ensures .1 e))
+    (says-map (c .nodes-ok .result .ok) (λ n. (all (n .0), n .1)) (λ ok. (shape-inners (fieldsOf s) (ok .0), ok .1)) (c .nodes-ok .ensures .0), λ e. counted-all (fieldsOf s) _ _ is-top (c .nodes-ok .ensures .1 e))
 
 pub shape-ok-spec : {M : Type 1} → statement M
 shape-ok-spec =

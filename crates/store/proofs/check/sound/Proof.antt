@@ -4,7 +4,7 @@ use borrow.Author.Needs.{needs}
 use Rattle.layout.specs.Sound.{Ins, Sound}
 use Rattle.layout.specs.Fields.{fieldsOf}
 use Rattle.layout.specs.SoundLaws.{sound-headed}
-use Rattle.layout.specs.CheckLaws.{held, refuted, says-map}
+use Rattle.layout.specs.CheckLaws.{held, refuted, says-map, sound-rises}
 use Rattle.store.proofs.check.sound.Statement.{statement}
 use Rattle.store.proofs.check.sound.Tie as tie
 
@@ -20,7 +20,7 @@ shape-ok-requires c κs = held (c .before .head-ok .result) (c .if1 .left) (c .b
 returns-2 : tie.Need-returns-2
 returns-2 c =
     let shape = c .before .before in
-    λ ok. refuted (shape .shape-ok .result .ok) (c .if2 .taken) (shape .shape-ok .ensures .0) (ok .fields .shape)
+    λ ok. refuted (shape .shape-ok .result .ok) (c .if2 .taken) (shape .shape-ok .ensures .0) (ok .fields .shape, sound-rises _ ok)
 
 ins-ok-requires : tie.Need-ins-ok-requires
 ins-ok-requires c κs =
@@ -37,7 +37,7 @@ returns-3 c =
     let s = head .before .before .args .s .now in
     let all : Ins (fieldsOf s) → Sound s = λ i. record {
       long = held (head .head-ok .result) (shape .before .if1 .left) (head .head-ok .ensures) .long;
-      fields = record { shape = held (shape .shape-ok .result .ok) (c .before .if2 .left) (shape .shape-ok .ensures .0); ins = i };
+      fields = record { shape = held (shape .shape-ok .result .ok) (c .before .if2 .left) (shape .shape-ok .ensures .0) .0; ins = i };
     } in
     let last : Sound s → Ins (fieldsOf s) = λ ok. ok .fields .ins in
     says-map (c .ins-ok .result) all last (c .ins-ok .ensures)

@@ -100,6 +100,12 @@ module _ (t : ℕ) where
   walk-focus-of-requires-2 : lts.Need-focus-of-requires-2 (cs t) (walk-at t) walk.Post
   walk-focus-of-requires-2 c κs = omega (arith, sound-fit _ (c .before .before .before .walk .ensures .sound))
 
+  walk-cast-enter : lts.Need-cast-enter (cs t) (walk-at t) walk.Post
+  walk-cast-enter c =
+      let b = passed (met (c .before .before .before .before .before .before)) in
+      let (ok, made) = start b .pre .1 in
+      record { fits = omega (arith, made-room _ ok _ made, sound-fit _ ok .n) }
+
   walk-enter-requires : lts.Need-enter-requires (cs t) (walk-at t) walk.Post
   walk-enter-requires c κs =
       let at = c .before .before in
@@ -149,6 +155,7 @@ pub +walk-spec : {M : Type 1} → statement M
     (walk-leave-requires t)
     (walk-walk-requires t)
     (walk-focus-of-requires-2 t)
+    (walk-cast-enter t)
     (walk-enter-requires t)
     (walk-same-length-2 t)
     (walk-returns-2 t)

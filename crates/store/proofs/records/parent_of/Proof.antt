@@ -7,12 +7,11 @@ use Rattle.store.proofs.records.parent_of.Tie as tie
 node-requires : tie.Need-node-requires
 node-requires c κs = search needs
 
-u16-at-requires : tie.Need-u16-at-requires
-u16-at-requires c κs = search needs
+parent-in-requires : tie.Need-parent-in-requires
+parent-in-requires c κs = search needs
 
 returns : tie.Need-returns
-unfolding parentN
-returns c = (c .u16-at .ensures .0 ∙ ap parentN (c .before .node .ensures .0), c .u16-at .ensures .1)
+returns c = (c .parent-in .ensures .0 ∙ ap parentN (c .before .node .ensures .0), c .parent-in .ensures .1)
 
 pub parent-of-spec : {M : Type 1} → statement M
-parent-of-spec = tie.close (tie.spec node-requires u16-at-requires returns)
+parent-of-spec = tie.close (tie.spec node-requires parent-in-requires returns)

@@ -7,12 +7,11 @@ use Rattle.store.proofs.records.post_of.Tie as tie
 node-requires : tie.Need-node-requires
 node-requires c κs = search needs
 
-u16-at-requires : tie.Need-u16-at-requires
-u16-at-requires c κs = search needs
+post-in-requires : tie.Need-post-in-requires
+post-in-requires c κs = search needs
 
 returns : tie.Need-returns
-unfolding postN
-returns c = (c .u16-at .ensures .0 ∙ ap postN (c .before .node .ensures .0), c .u16-at .ensures .1)
+returns c = (c .post-in .ensures .0 ∙ ap postN (c .before .node .ensures .0), c .post-in .ensures .1)
 
 pub post-of-spec : {M : Type 1} → statement M
-post-of-spec = tie.close (tie.spec node-requires u16-at-requires returns)
+post-of-spec = tie.close (tie.spec node-requires post-in-requires returns)

@@ -31,7 +31,7 @@ returns : tie.Need-returns
 unfolding withNode
 returns c =
     let args = c .before .before .before .before .before .before .before .args in
-    lent-at (λ p. nodeB (args .k) (args .up) (args .a) (args .b) (args .c)) _ _ _ _ _ (c .before .before .before .before .node-at .ensures) (c .before .before .put-node .ensures)
+    lent-at (λ p. nodeB (args .k) (args .up) (args .a) (args .b) (args .c) (args .d)) _ _ _ _ _ (c .before .before .before .before .node-at .ensures) (c .before .before .put-node .ensures)
 
 pub set-node-spec : {M : Type 1} → statement M
 set-node-spec =

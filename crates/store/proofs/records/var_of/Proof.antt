@@ -7,12 +7,11 @@ use Rattle.store.proofs.records.var_of.Tie as tie
 node-requires : tie.Need-node-requires
 node-requires c κs = search needs
 
-u16-at-requires : tie.Need-u16-at-requires
-u16-at-requires c κs = search needs
+var-in-requires : tie.Need-var-in-requires
+var-in-requires c κs = search needs
 
 returns : tie.Need-returns
-unfolding varN
-returns c = (c .u16-at .ensures .0 ∙ ap varN (c .before .node .ensures .0), c .u16-at .ensures .1)
+returns c = (c .var-in .ensures .0 ∙ ap varN (c .before .node .ensures .0), c .var-in .ensures .1)
 
 pub var-of-spec : {M : Type 1} → statement M
-var-of-spec = tie.close (tie.spec node-requires u16-at-requires returns)
+var-of-spec = tie.close (tie.spec node-requires var-in-requires returns)

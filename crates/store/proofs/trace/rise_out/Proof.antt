@@ -39,13 +39,13 @@ is-out-requires : tie.Need-is-out-requires Inv-loop μ-loop
 is-out-requires c κs = search needs
 
 add-moves : tie.Need-add-moves Inv-loop μ-loop
-add-moves c = let (ok, made) = c .before .before .before .before .before .pre in omega (arith, c .before .before .before .loop .inv .moved, few-moves _ ok _ made)
+add-moves c = let start = c .before .before .before .before .before in omega (arith, c .before .before .before .loop .inv .moved, few-moves _ (start .pre .0) (start .args .a))
 
 wind-bit-requires : tie.Need-wind-bit-requires Inv-loop μ-loop
 wind-bit-requires c κs = let (ok, made) = c .before .before .before .before .before .pre in (sound-fit _ ok, made-room _ ok _ (c .before .before .before .loop .inv .made))
 
 add-events : tie.Need-add-events Inv-loop μ-loop
-add-events c = let (ok, made) = c .before .before .before .before .before .before .pre in omega (arith, c .before .before .before .before .loop .inv .told, few-events _ ok _ made)
+add-events c = let start = c .before .before .before .before .before .before in omega (arith, c .before .before .before .before .loop .inv .told, few-events _ (start .pre .0) (start .args .a))
 
 parent-of-requires : tie.Need-parent-of-requires Inv-loop μ-loop
 parent-of-requires c κs = let (ok, made) = c .before .before .before .before .before .before .pre in (sound-fit _ ok, made-room _ ok _ (c .before .before .before .before .loop .inv .made))

@@ -21,13 +21,13 @@ loop-holds : tie.Need-loop-holds Inv-loop μ-loop
 loop-holds c = let (ok, way) = c .before .before .pre in rising-start _ ok _ way _ (c .focus-of .ensures .0)
 
 add-moves : tie.Need-add-moves Inv-loop μ-loop
-add-moves c = let (ok, way) = c .before .before .before .before .pre in omega (arith, c .before .loop .inv .moved, few-moves _ ok _ (way .made))
+add-moves c = let start = c .before .before .before .before in omega (arith, c .before .loop .inv .moved, few-moves _ (start .pre .0) (start .args .meet))
 
 wind-bit-requires : tie.Need-wind-bit-requires Inv-loop μ-loop
 wind-bit-requires c κs = let (ok, way) = c .before .before .before .before .pre in (sound-fit _ ok, made-room _ ok _ (c .before .loop .inv .made))
 
 add-events : tie.Need-add-events Inv-loop μ-loop
-add-events c = let (ok, way) = c .before .before .before .before .before .pre in omega (arith, c .before .before .loop .inv .told, few-events _ ok _ (way .made))
+add-events c = let start = c .before .before .before .before .before in omega (arith, c .before .before .loop .inv .told, few-events _ (start .pre .0) (start .args .meet))
 
 parent-of-requires : tie.Need-parent-of-requires Inv-loop μ-loop
 parent-of-requires c κs = let (ok, way) = c .before .before .before .before .before .pre in (sound-fit _ ok, made-room _ ok _ (c .before .before .loop .inv .made))

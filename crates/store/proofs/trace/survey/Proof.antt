@@ -14,14 +14,14 @@ rise-to-requires c κs = let (ok, made) = c .before .before .pre in (ok, rw (c .
 add-t5 : tie.Need-add-t5
 add-t5 c =
     let back = c .before .before in
-    let (ok, made) = back .before .before .before .pre in
-    omega (arith, back .before .rise-out .ensures .0 .moved, few-moves _ ok _ made)
+    let start = back .before .before .before in
+    omega (arith, back .before .rise-out .ensures .0 .moved, few-moves _ (start .pre .0) (start .args .a))
 
 add-t6 : tie.Need-add-t6
 add-t6 c =
     let back = c .before .before .before .before in
-    let (ok, made) = back .before .before .before .pre in
-    omega (arith, back .before .rise-out .ensures .0 .told, few-events _ ok _ made)
+    let start = back .before .before .before in
+    omega (arith, back .before .rise-out .ensures .0 .told, few-events _ (start .pre .0) (start .args .a))
 
 returns : tie.Need-returns
 returns c = search needs
