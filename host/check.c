@@ -306,6 +306,15 @@ void chance_tops(uint8_t *tops, unsigned vars)
     }
 }
 
+void chance_open(struct model *m, unsigned vars, unsigned nodes, size_t spare)
+{
+    static uint8_t tops[KN_MAX_VARS * KN_CELL_BYTES];
+
+    chance_tops(tops, vars);
+    lent_take(&store, KN_SIZE(vars, nodes) + spare);
+    open_beside(m, vars, nodes, tops, vars * (size_t)KN_CELL_BYTES);
+}
+
 static void chance_node(struct model *m, unsigned n)
 {
     struct model_node *node = &m->node[n];

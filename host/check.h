@@ -75,6 +75,9 @@ kn_answer open_beside(struct model *m, uint32_t vars, uint32_t nodes,
 /* vars proper top cells, some of them unbound. */
 void chance_tops(uint8_t *tops, unsigned vars);
 
+/* Opens a store with random top cells, lent with spare bytes after. */
+void chance_open(struct model *m, unsigned vars, unsigned nodes, size_t spare);
+
 /* A random meaning with so many environments made, bindings that are unbound
    among them; the lent store becomes its bytes, with spare bytes after. */
 void chance_store(struct model *m, unsigned vars, unsigned nodes,
@@ -87,5 +90,6 @@ void test_edges(void);
 void test_clauses(void);
 void test_damage(void);
 void test_runs(void);
+void test_doors(void);
 
 #endif

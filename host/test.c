@@ -9,5 +9,6 @@ int main(void)
     test_clauses();
     test_damage();
     test_runs();
+    test_doors();
     return check_report();
 }

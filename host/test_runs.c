@@ -139,12 +139,8 @@ static void limit_runs(void)
 
 static void open_at_limits(void)
 {
-    static uint8_t tops[KN_MAX_VARS * KN_CELL_BYTES];
-
-    chance_tops(tops, KN_MAX_VARS);
-    lent_take(&store, KN_SIZE(KN_MAX_VARS, KN_MAX_NODES));
+    chance_open(&meaning, KN_MAX_VARS, KN_MAX_NODES, 0);
     lent_take(&trace, CHAIN * KN_EVENT_BYTES);
-    open_beside(&meaning, KN_MAX_VARS, KN_MAX_NODES, tops, sizeof tops);
 }
 
 /* So many more nodes in one line; each wind_every-th is a wind. */

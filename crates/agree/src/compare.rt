@@ -25,6 +25,8 @@ pub(crate) const REFUSAL: usize = 5;
 
 pub(crate) const SIZES: usize = 6;
 
+pub(crate) const DOORS: usize = 7;
+
 // ---- counts: refusals by their numbers up to 8, then these
 
 pub(crate) const SEQUENCES: usize = 10;
@@ -60,6 +62,10 @@ pub(crate) const TOP_DEPTH: usize = 24;
 pub(crate) const BLANK_DEPTH: usize = 25;
 
 pub(crate) const SHIFTED: usize = 26;
+
+pub(crate) const PAIRS: usize = 27;
+
+pub(crate) const PUT_IN: usize = 28;
 
 pub(crate) fn count(m: &mut [usize; SPACE], i: usize, n: usize) {
     let c = model::of(m, COUNTED, i);

@@ -257,7 +257,7 @@ fn numbers(kind: usize, g: usize, m: &[usize; SPACE], what: u8) -> Op {
     }
 }
 
-fn made_op(what: u8, one: usize, two: usize) -> Op {
+pub(crate) fn made_op(what: u8, one: usize, two: usize) -> Op {
     Op {
         what,
         one,

@@ -5,6 +5,7 @@ mod buffer;
 mod compare;
 mod damage;
 mod depths;
+mod doors;
 mod draw;
 mod image;
 mod model;

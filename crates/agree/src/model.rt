@@ -34,7 +34,7 @@ pub(crate) const NEWEST: usize = MARK + Store::NODES;
 
 pub(crate) const COUNTED: usize = NEWEST + 1;
 
-pub(crate) const COUNTS: usize = 27;
+pub(crate) const COUNTS: usize = 29;
 
 pub(crate) const LENT: usize = COUNTED + COUNTS;
 

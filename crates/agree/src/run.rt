@@ -19,6 +19,7 @@ use crate::compare::count;
 use crate::compare::values_agree;
 use crate::damage;
 use crate::depths;
+use crate::doors;
 use crate::draw;
 use crate::draw::Op;
 use crate::draw::Opening;
@@ -146,20 +147,21 @@ fn step(loud: bool, kind: usize, g: usize, s: &mut [u8], m: &mut [usize; SPACE])
 
 // ---- a turn, in parts
 
-// Before a step that goes by the bytes, and at first, the Bytes are compared; then comes the Step; then the Bytes are compared,
-// then the Values; then nodes are their own Parents, and depths are False. A row for a turn in a larger store, in a small one,
-// for every sixteenth in a larger one, and for the last, which has no step; then the same where the step goes by the bytes, or is
-// the first.
+// Before a step that goes by the bytes, and at first, the Bytes are compared; before another the second run goes Round. Then
+// comes the Step; then the Bytes are compared, then the Values; then nodes are their own Parents, and depths are False. The
+// second run is Equal to the first; after a step by the bytes it is Copied from it. A row for a turn in a larger store, in a small
+// one, for every sixteenth in a larger one, and for the last, which has no step; then the same where the step goes by the bytes,
+// or is the first.
 const PARTS: usize = 4 + parents::WAYS + depths::WAYS;
 
-const ACTS: [u8; 8 * PARTS] = *b".s..............\
-    .sbv............\
-    .sbvpppp........\
-    ..bvppppffffffff\
-    bsb.............\
-    bsbv............\
-    bsbvpppp........\
-    b.bvppppffffffff";
+const ACTS: [u8; 8 * PARTS] = *b"rs..............\
+    rsbv....e.......\
+    rsbvppppe.......\
+    .bevppppffffffff\
+    bsb.....c.......\
+    bsbv....c.......\
+    bsbvppppc.......\
+    .bevppppffffffff";
 
 // The bytes of a small store, and some more.
 const SMALL: usize = 512;
@@ -197,13 +199,24 @@ fn spots(p: Plan, k: usize) -> usize {
     if k / PARTS == p.steps { MANY } else { SOME }
 }
 
-fn act(loud: bool, p: Plan, k: usize, g: usize, s: &mut [u8], m: &mut [usize; SPACE]) -> usize {
+fn act(
+    loud: bool,
+    p: Plan,
+    k: usize,
+    g: usize,
+    s: &mut [u8],
+    u: &mut [u8],
+    m: &mut [usize; SPACE],
+) -> usize {
     match part(p, k, g, s.len(), m) {
         b'b' => bytes_agree(loud, s, m),
         b's' => step(loud, p.kind, g, s, m),
         b'v' => values_agree(loud, g, spots(p, k), s, m),
         b'p' => parents::own_parent(loud, g, k % parents::WAYS, s, m),
         b'f' => depths::false_depths(loud, g, k % depths::WAYS, s, m),
+        b'r' => doors::go_round(loud, g, draw::operation(p.kind, g, m), u, m),
+        b'e' => doors::pair_agrees(loud, s, u, m),
+        b'c' => doors::begin(s, u),
         _ => 0,
     }
 }
@@ -217,12 +230,19 @@ fn drawn(g: usize, k: usize) -> usize {
     }
 }
 
-fn all_parts(loud: bool, p: Plan, seed: usize, s: &mut [u8], m: &mut [usize; SPACE]) -> usize {
+fn all_parts(
+    loud: bool,
+    p: Plan,
+    seed: usize,
+    s: &mut [u8],
+    u: &mut [u8],
+    m: &mut [usize; SPACE],
+) -> usize {
     let end = PARTS * (p.steps % 65_536 + 1);
     let mut g = draw::next(seed);
     let mut k = 0;
     while k < end {
-        let found = act(loud, p, k, g, s, m);
+        let found = act(loud, p, k, g, s, u, m);
         if found != 0 {
             return found;
         }
@@ -232,24 +252,33 @@ fn all_parts(loud: bool, p: Plan, seed: usize, s: &mut [u8], m: &mut [usize; SPA
     0
 }
 
-fn played(loud: bool, p: Plan, seed: usize, s: &mut [u8], m: &mut [usize; SPACE]) -> usize {
+// The sequence in s, and its second run in u.
+fn played(
+    loud: bool,
+    p: Plan,
+    seed: usize,
+    s: &mut [u8],
+    u: &mut [u8],
+    m: &mut [usize; SPACE],
+) -> usize {
     count(m, SEQUENCES, 1);
     fill(s);
     let found = open(loud, draw::first_opening(p, draw::next(seed)), s, m);
     if found != 0 {
         return found;
     }
-    all_parts(loud, p, seed, s, m)
+    all_parts(loud, p, seed, s, u, m)
 }
 
 // The sequence of this seed.
 pub(crate) fn sequence(loud: bool, seed: usize, m: &mut [usize; SPACE]) -> usize {
     let mut s = [0u8; LARGEST];
+    let mut u = [0u8; LARGEST];
     let p = draw::planned(seed);
     let len = plus(model::size_of(p.vars, p.nodes), p.slack);
     say::plan(loud, seed, p);
     if LARGEST < len {
         return SIZES;
     }
-    played(loud, p, seed, &mut s[0..len], m)
+    played(loud, p, seed, &mut s[0..len], &mut u[0..len], m)
 }

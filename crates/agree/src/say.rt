@@ -7,7 +7,7 @@ use libc::STDOUT_FILENO;
 
 // Each row ends in a dot. A, B and C stand for three numbers, V for B as the bits of a value, and / ends a line. There is a row
 // for each count by its number, then for the kinds of sequences, for what is found, for the operations, and the rows below.
-const TEXT: usize = 1425;
+const TEXT: usize = 1542;
 
 const ROWS: [u8; TEXT] = *b".\
     refused with 1=A/.\
@@ -36,6 +36,8 @@ const ROWS: [u8; TEXT] = *b".\
     false depths of the top refused=A/.\
     false depths of blanks refused=A/.\
     shifted depths refused=A/.\
+    runs with jumps put in compared=A/.\
+    jumps put in=A/.\
     deep.\
     bushy.\
     same variable.\
@@ -52,6 +54,7 @@ const ROWS: [u8; TEXT] = *b".\
     a value differs/.\
     a damaged store was not refused, or a byte changed/.\
     the program has an error of its own/.\
+    a run with jumps put in ends in other bytes/.\
     bind=A,V trace bytes=C/.\
     wind=A,B trace bytes=C/.\
     look=A trace bytes=C/.\
@@ -74,41 +77,44 @@ const ROWS: [u8; TEXT] = *b".\
     open: vars=A nodes=B bytes of top cells=C/.\
     here with the first bytes=A/.\
     its own parent: node=A/.\
-    false depths: from node=A before=B plus=C/.";
+    false depths: from node=A before=B plus=C/.\
+    put in: a jump to=A/.";
 
-const KINDS: usize = 27;
+const KINDS: usize = 29;
 
-const FOUND: usize = 36;
+const FOUND: usize = 38;
 
-const OPERATIONS: usize = 43;
+const OPERATIONS: usize = 46;
 
-const SEED: usize = 52;
+const SEED: usize = 55;
 
-const PLAN: usize = 53;
+const PLAN: usize = 56;
 
-const MODEL: usize = 54;
+const MODEL: usize = 57;
 
-const STORE: usize = 55;
+const STORE: usize = 58;
 
-const SEEN: usize = 56;
+const SEEN: usize = 59;
 
-const UNSEEN: usize = 57;
+const UNSEEN: usize = 60;
 
-pub(crate) const BYTE: usize = 58;
+pub(crate) const BYTE: usize = 61;
 
-pub(crate) const VALUE: usize = 59;
+pub(crate) const VALUE: usize = 62;
 
-pub(crate) const DAMAGE: usize = 60;
+pub(crate) const DAMAGE: usize = 63;
 
-pub(crate) const HOLLOW: usize = 61;
+pub(crate) const HOLLOW: usize = 64;
 
-pub(crate) const OPEN: usize = 62;
+pub(crate) const OPEN: usize = 65;
 
-pub(crate) const CUT: usize = 63;
+pub(crate) const CUT: usize = 66;
 
-pub(crate) const PARENT: usize = 64;
+pub(crate) const PARENT: usize = 67;
 
-pub(crate) const DEPTHS: usize = 65;
+pub(crate) const DEPTHS: usize = 68;
+
+pub(crate) const JUMP: usize = 69;
 
 fn number(n: usize) {
     io::print_decimal(STDOUT_FILENO, n as u64);

@@ -104,7 +104,7 @@ abbrev leaves : ℕ → ℕ → Event
 leaves thunk place = record { entering = false; thunk = thunk; place = place }
 
 -- a top cell of value 1
-abbrev one : List ℕ
+abbrev pub one : List ℕ
 one = 1 ∷ 1 ∷ 0 ∷ 0 ∷ 0 ∷ []
 
 -- the least value

@@ -7,4 +7,6 @@ pub mod NoChoice
 pub mod Held
 pub mod Demands
 pub mod Runs
+pub mod Doors
 pub mod Cases
+pub mod Pairs

@@ -85,7 +85,7 @@ pub told-drop : (es : List Event) (t : List ℕ) → drop (eventSize * length es
 unfolding told
 told-drop es t = drop-at (eventsB es) (drop (eventSize * length es) t) (eventSize * length es) (events-length es)
 
-deep-same : {d d′ : Deep} → d ≡ d′ → SameDeep d d′
+pub deep-same : {d d′ : Deep} → d ≡ d′ → SameDeep d d′
 deep-same e = record {
   focus = ap (λ (k : Deep). k .focus) e;
   kinds = λ a. ap (λ (k : Deep). k .tree .what a) e;

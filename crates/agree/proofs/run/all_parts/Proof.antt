@@ -6,10 +6,10 @@ use Rattle.agree.proofs.run.all_parts.Statement.{statement}
 use Rattle.agree.proofs.run.all_parts.Tie as tie
 
 abbrev Inv-loop : tie.InvT-loop
-Inv-loop loud p seed s₀ m₀ end g₀ k₀ s m g k = (k ≤ end) × (length s ≡ length s₀)
+Inv-loop loud p seed s₀ u₀ m₀ end g₀ k₀ s u m g k = (k ≤ end) × ((length s ≡ length s₀) × (length u ≡ length u₀))
 
 abbrev μ-loop : tie.MeasureT-loop
-μ-loop loud p seed s₀ m₀ end g₀ k₀ s m g k = end - k
+μ-loop loud p seed s₀ u₀ m₀ end g₀ k₀ s u m g k = end - k
 
 add-end : tie.Need-add-end Inv-loop μ-loop
 add-end c = search needs
@@ -29,6 +29,9 @@ act-requires c κs = search needs
 same-length : tie.Need-same-length Inv-loop μ-loop
 same-length c = search needs
 
+same-length-2 : tie.Need-same-length-2 Inv-loop μ-loop
+same-length-2 c = search needs
+
 returns : tie.Need-returns Inv-loop μ-loop
 returns c = search needs
 
@@ -44,8 +47,11 @@ loop-less c = search needs
 loop-again : tie.Need-loop-again Inv-loop μ-loop
 loop-again c = search needs
 
-same-length-2 : tie.Need-same-length-2 Inv-loop μ-loop
-same-length-2 c = search needs
+same-length-3 : tie.Need-same-length-3 Inv-loop μ-loop
+same-length-3 c = search needs
+
+same-length-4 : tie.Need-same-length-4 Inv-loop μ-loop
+same-length-4 c = search needs
 
 returns-2 : tie.Need-returns-2 Inv-loop μ-loop
 returns-2 c = search needs
@@ -62,10 +68,12 @@ all-parts-spec =
     loop-holds
     act-requires
     same-length
+    same-length-2
     returns
     drawn-requires
     add-k
     loop-less
     loop-again
-    same-length-2
+    same-length-3
+    same-length-4
     returns-2)
