@@ -1,12 +1,12 @@
 -- What a buffer says, record by record: the header's numbers by their place, the cells by variable, the nodes by number.
--- Past V a cell is blank, past N a node is, so no byte past the size is spoken of. Assumes nothing: these are definitions.
+-- Past V a cell is all zero, past N a node is, so no byte past the size is spoken of. Assumes nothing: these are definitions.
 use mathlib.Core.Bool.{cond}
 use Prim.Native.Nat.{ℕ, _≤_}
 use mathlib.Core.List.{List}
 use lib.Dec.{ltb}
-use lib.ListN.{length, drop}
-use Rattle.layout.specs.Limits.{maxVars, maxNodes, sizeOf}
-use Rattle.layout.specs.Records.{headN, vars, room, cellOf, nodeOf, blankCell, blankNode}
+use lib.ListN.{length, drop, replicate}
+use Rattle.layout.specs.Limits.{maxVars, maxNodes, cellSize, sizeOf}
+use Rattle.layout.specs.Records.{headN, vars, room, cellOf, nodeOf, blankNode}
 
 pub record Fields : Type 0 where
   pub head : ℕ → ℕ
@@ -26,7 +26,7 @@ abbrev pub focusF : Fields → ℕ
 focusF f = f .head 3
 
 unfoldable pub cells : List ℕ → ℕ → List ℕ
-cells s x = cond (ltb x (vars s)) (cellOf s x) blankCell
+cells s x = cond (ltb x (vars s)) (cellOf s x) (replicate cellSize 0)
 
 unfoldable pub nodes : List ℕ → ℕ → List ℕ
 nodes s n = cond (ltb n (room s)) (nodeOf s n) blankNode

@@ -9,12 +9,12 @@ use native.Mathlib.Omega.{arith}
 use native.Mathlib.Decide.{decLt, ℕ-discrete}
 use mathlib.Core.List.{List, [], _∷_}
 use lib.Dec.{eqb, ltb}
-use lib.ListN.{length, getD, set, drop, length-set}
+use lib.ListN.{length, getD, set, drop, replicate, length-set}
 use borrow.Author.Tests.{lt-ltb, le-ltb, ne-eqb}
 use Rattle.rules.specs.Basic.{upd, upd-same, upd-other, eqb-self}
 use Rattle.layout.specs.Limits.{header, cellSize, bareSize, nodeSize, cellAt, nodeAt, sizeOf}
 use Rattle.layout.specs.Bytes.{part, splice, u16, put16, part-length, splice-length, splice-same, splice-before, splice-after, splice-apart, splice-drop, put16-length, u16-same, u16-other, tab, by-tab}
-use Rattle.layout.specs.Records.{headOf, headN, withHead, vars, room, blankCell, cellOf, withCell, bareC, putC, nodeOf, withNode, kindN, parentN, varN, postN, storedN, turnN, swapN, blankNode}
+use Rattle.layout.specs.Records.{headOf, headN, withHead, vars, room, cellOf, withCell, bareC, putC, nodeOf, withNode, kindN, parentN, varN, postN, storedN, turnN, swapN, blankNode}
 use Rattle.layout.specs.Fields.{Fields, varsF, roomF, cells, nodes, fieldsOf, Fit, past}
 
 -- ---- the records of a buffer
@@ -30,7 +30,7 @@ pub cell-in : (s : List ℕ) (x : ℕ) → x < vars s → cells s x ≡ cellOf s
 unfolding cells
 cell-in s x h = simp (lt-ltb _ _ h)
 
-pub cell-past : (s : List ℕ) (x : ℕ) → vars s ≤ x → cells s x ≡ blankCell
+pub cell-past : (s : List ℕ) (x : ℕ) → vars s ≤ x → cells s x ≡ replicate cellSize 0
 unfolding cells
 cell-past s x h = simp (le-ltb _ _ h)
 
@@ -39,7 +39,7 @@ pub record OfBuffer (f : Fields) : Type 0 where
   pub node-long : (n : ℕ) → length (f .node n) ≡ nodeSize
   pub cell-long : (x : ℕ) → length (f .cell x) ≡ cellSize
   pub node-end : (n : ℕ) → roomF f ≤ n → f .node n ≡ blankNode
-  pub cell-end : (x : ℕ) → varsF f ≤ x → f .cell x ≡ blankCell
+  pub cell-end : (x : ℕ) → varsF f ≤ x → f .cell x ≡ replicate cellSize 0
 
 node-part : (s : List ℕ) (n : ℕ) → Fit s → n < room s → length (nodeOf s n) ≡ nodeSize
 unfolding nodeOf

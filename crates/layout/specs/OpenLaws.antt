@@ -5,28 +5,29 @@ use mathlib.Core.Bool.{Bool, true, false, cond}
 use mathlib.Core.Option.{none}
 use Prim.Native.Nat.{ℕ, zero, suc, _+_, _-_, _*_, _≤_, _<_}
 use native.Mathlib.Omega.{arith}
+use native.Mathlib.Numerals.{add-one}
 use native.Mathlib.Decide.{decLt}
 use mathlib.Core.List.{List, [], _++_, append-assoc}
 use lib.Dec.{eqb, ltb}
-use lib.ListN.{length, drop, replicate, length-append, length-replicate, getD-replicate}
-use lib.Seq.{ext-getD, take-at, drop-at, drop-drop}
+use lib.ListN.{length, drop, replicate, take-append-drop, length-append, length-replicate, getD-replicate}
+use lib.Seq.{ext-getD, take-all, take-at, drop-at, drop-drop}
 use borrow.Author.Tests.{ne-eqb, lt-ltb, le-ltb}
 use Rattle.rules.specs.Tree.{blank, top}
 use Rattle.rules.specs.Values.{Cell, unbound}
 use Rattle.rules.specs.Store.{home}
 use Rattle.rules.specs.Calls.{valueAt, openWhat, opened, open-values}
 use Rattle.layout.specs.Limits.{maxVars, maxNodes, header, cellSize, bareSize, nodeSize, cellAt, nodeAt, sizeOf}
-use Rattle.layout.specs.Bytes.{part, splice, u16, part-length, part-at, part-left, part-right}
+use Rattle.layout.specs.Bytes.{part, splice, u16, part-length, part-at, part-left, part-right, splice-next}
 use Rattle.layout.specs.Opening.{OpenFits, topCells}
-use Rattle.layout.specs.Records.{headOf, headN, vars, room, made, focus, ProperCell, cellOf, bareC, topC, nodeOf, kindN, storedN, depthN, topNode, blankNode}
+use Rattle.layout.specs.Records.{headOf, headN, vars, room, made, focus, ProperCell, cellOf, withCell, bareC, cellB, topC, nodeOf, kindN, storedN, depthN, topNode, blankNode}
 use Rattle.layout.specs.Kinds.{isIn}
 use Rattle.layout.specs.Fields.{cells, nodes, fieldsOf, past}
 use Rattle.layout.specs.View.{asCell, whatN, upN, treeF, viewF, view}
 use Rattle.layout.specs.Sound.{Shape, Sound}
 use Rattle.layout.specs.Made.{IsMade}
-use Rattle.layout.specs.Writes.{headB, openB}
+use Rattle.layout.specs.Writes.{headB, cellsB, openB}
 use Rattle.layout.specs.Laws.{node-in, node-past, cell-in, cell-past, of-buffer}
-use Rattle.layout.specs.RecordLaws.{as-blank}
+use Rattle.layout.specs.RecordLaws.{bare-length, cell-length, bare-whole, as-blank}
 use Rattle.layout.specs.SoundLaws.{what-top, what-blank, up-top, up-blank, in-top, in-blank, depth-top, depth-blank, shape-by-numbers, modes-by-numbers, headed-fit}
 
 -- ---- an opened store t, with the bytes `rest` past its size
@@ -53,21 +54,61 @@ put-after l r ys a n e =
 unfoldable pub nodesB : ℕ → List ℕ
 nodesB k = topNode ++ replicate (k - nodeSize) 0
 
-pub written : (s tops : List ℕ) (v n : ℕ) → length tops ≡ bareSize * v
-    → splice (splice (splice s 0 header (headB v n 1 0)) header (cellSize * v) tops) (header + cellSize * v) (nodeSize * n) (nodesB (nodeSize * n))
+-- the cells, one by one
+cells-length : (v : ℕ) (tops : List ℕ) → length (cellsB v tops) ≡ cellSize * v
+cells-length zero tops = refl
+cells-length (suc v) tops = length-append (cellsB v tops) (cellB (topC tops v)) ∙ omega (arith, cells-length v tops, cell-length (topC tops v))
+
+-- the cells from cell to cell: none, and one more
+pub cells-none : (s tops : List ℕ) → s ≡ splice s header (cellSize * 0) (cellsB 0 tops)
+unfolding splice
+cells-none s tops = sym (take-append-drop header s)
+
+pub cells-more : (s tops : List ℕ) (x : ℕ) → cellAt x ≤ length s
+    → withCell (splice s header (cellSize * x) (cellsB x tops)) x (cellB (topC tops x)) ≡ splice s header (cellSize * (x + 1)) (cellsB (x + 1) tops)
+unfolding withCell
+cells-more s tops x h =
+    let more : cellSize * x + cellSize ≡ cellSize * (x + 1) = omega arith in
+    splice-next s (cellsB x tops) (cellB (topC tops x)) header (cellSize * x) cellSize (cells-length x tops) h
+    ∙ ap (λ (k : ℕ). splice s header k (cellsB x tops ++ cellB (topC tops x))) more
+    ∙ ap (λ (k : ℕ). splice s header (cellSize * (x + 1)) (cellsB k tops)) (sym (add-one x))
+
+pub written : (s tops : List ℕ) (v n : ℕ)
+    → splice (splice (splice s 0 header (headB v n 1 0)) header (cellSize * v) (cellsB v tops)) (header + cellSize * v) (nodeSize * n) (nodesB (nodeSize * n))
     ≡ openB v n tops ++ drop (sizeOf v n) s
 unfolding openB headB nodesB
-written s tops v n e =
+written s tops v n =
     let h : List ℕ = headB v n 1 0 in
-    let long : length (h ++ tops) ≡ header + cellSize * v = omega (arith, length-append h tops) in
+    let c : List ℕ = cellsB v tops in
+    let long : length (h ++ c) ≡ header + cellSize * v = omega (arith, length-append h c, cells-length v tops) in
     let count : nodeSize * n - nodeSize ≡ nodeSize * (n - 1) = omega arith in
-    ap (λ (t : List ℕ). splice (splice t header (cellSize * v) tops) (header + cellSize * v) (nodeSize * n) (nodesB (nodeSize * n))) (put-after [] s h 0 header refl)
-    ∙ ap (λ (t : List ℕ). splice t (header + cellSize * v) (nodeSize * n) (nodesB (nodeSize * n))) (put-after h (drop header s) tops header (cellSize * v) refl)
-    ∙ put-after (h ++ tops) (drop (cellSize * v) (drop header s)) (nodesB (nodeSize * n)) (header + cellSize * v) (nodeSize * n) long
-    ∙ ap (λ (d : List ℕ). ((h ++ tops) ++ nodesB (nodeSize * n)) ++ drop (nodeSize * n) d) (drop-drop (cellSize * v) header s)
-    ∙ ap (λ (d : List ℕ). ((h ++ tops) ++ nodesB (nodeSize * n)) ++ d) (drop-drop (nodeSize * n) (header + cellSize * v) s)
-    ∙ ap (λ (k : ℕ). ((h ++ tops) ++ (topNode ++ replicate k 0)) ++ drop (sizeOf v n) s) count
-    ∙ ap (λ (l : List ℕ). l ++ drop (sizeOf v n) s) (append-assoc h tops (topNode ++ replicate (nodeSize * (n - 1)) 0))
+    ap (λ (t : List ℕ). splice (splice t header (cellSize * v) c) (header + cellSize * v) (nodeSize * n) (nodesB (nodeSize * n))) (put-after [] s h 0 header refl)
+    ∙ ap (λ (t : List ℕ). splice t (header + cellSize * v) (nodeSize * n) (nodesB (nodeSize * n))) (put-after h (drop header s) c header (cellSize * v) refl)
+    ∙ put-after (h ++ c) (drop (cellSize * v) (drop header s)) (nodesB (nodeSize * n)) (header + cellSize * v) (nodeSize * n) long
+    ∙ ap (λ (d : List ℕ). ((h ++ c) ++ nodesB (nodeSize * n)) ++ drop (nodeSize * n) d) (drop-drop (cellSize * v) header s)
+    ∙ ap (λ (d : List ℕ). ((h ++ c) ++ nodesB (nodeSize * n)) ++ d) (drop-drop (nodeSize * n) (header + cellSize * v) s)
+    ∙ ap (λ (k : ℕ). ((h ++ c) ++ (topNode ++ replicate k 0)) ++ drop (sizeOf v n) s) count
+    ∙ ap (λ (l : List ℕ). l ++ drop (sizeOf v n) s) (append-assoc h c (topNode ++ replicate (nodeSize * (n - 1)) 0))
+
+-- ---- the cell of x among them
+cells-at : (v : ℕ) (tops : List ℕ) (x : ℕ) → x < v → part (cellsB v tops) (cellSize * x) cellSize ≡ cellB (topC tops x)
+unfolding part
+cells-at zero tops x h = absurd (omega arith)
+cells-at (suc v) tops x h = go (decLt x v) (cells-at v tops x)
+  where
+    front : length (cellsB v tops) ≡ cellSize * v
+    front = cells-length v tops
+
+    go : Dec (x < v) → (x < v → part (cellsB v tops) (cellSize * x) cellSize ≡ cellB (topC tops x))
+        → part (cellsB v tops ++ cellB (topC tops v)) (cellSize * x) cellSize ≡ cellB (topC tops x)
+    go (yes l) before = part-left (cellsB v tops) (cellB (topC tops v)) (cellSize * x) cellSize (omega (arith, front)) ∙ before l
+    go (no l) before =
+        let e : x ≡ v = omega arith in
+        let at : cellSize * x ≡ length (cellsB v tops) + 0 = omega (arith, front) in
+        ap (λ (k : ℕ). part (cellsB v tops ++ cellB (topC tops v)) k cellSize) at
+        ∙ part-right (cellsB v tops) (cellB (topC tops v)) 0 cellSize
+        ∙ take-all cellSize (cellB (topC tops v)) (omega (arith, cell-length (topC tops v)))
+        ∙ ap (λ (y : ℕ). cellB (topC tops y)) (sym e)
 
 -- ---- a part of zeros
 zeros-part : (m a k : ℕ) → a + k ≤ m → part (replicate m 0) a k ≡ replicate k 0
@@ -111,31 +152,32 @@ module _ (v n : ℕ) (tops rest : List ℕ) (ok : OpenFits v n tops) where
 
   size-is : length (openB v n tops) ≡ sizeOf v n
   unfolding openB headB topNode
-  size-is = simp (length-append, length-replicate) (omega arith)
+  size-is = simp (length-append, length-replicate) (omega (arith, cells-length v tops))
 
   -- the three pieces that a cell or a node lies in
   abbrev blanks : List ℕ
   blanks = replicate (nodeSize * (n - 1)) 0 ++ rest
 
-  split : t ≡ (headB v n 1 0 ++ tops) ++ (topNode ++ blanks)
+  split : t ≡ (headB v n 1 0 ++ cellsB v tops) ++ (topNode ++ blanks)
   unfolding openB
   split = simp append-assoc
 
-  cell-at : (x : ℕ) → x < v → cellOf t x ≡ part tops (bareSize * x) bareSize
+  cell-at : (x : ℕ) → x < v → cellOf t x ≡ cellB (topC tops x)
   unfolding cellOf headB
   cell-at x h =
-      ap (λ (l : List ℕ). part l (cellAt x) cellSize) (split ∙ append-assoc (headB v n 1 0) tops (topNode ++ blanks))
-      ∙ part-right (headB v n 1 0) (tops ++ (topNode ++ blanks)) (bareSize * x) cellSize
-      ∙ part-left tops (topNode ++ blanks) (bareSize * x) bareSize (omega (arith, ok .tops-long))
+      ap (λ (l : List ℕ). part l (cellAt x) cellSize) (split ∙ append-assoc (headB v n 1 0) (cellsB v tops) (topNode ++ blanks))
+      ∙ part-right (headB v n 1 0) (cellsB v tops ++ (topNode ++ blanks)) (cellSize * x) cellSize
+      ∙ part-left (cellsB v tops) (topNode ++ blanks) (cellSize * x) cellSize (omega (arith, cells-length v tops))
+      ∙ cells-at v tops x h
 
   node-at : (m : ℕ) → nodeOf t m ≡ part (topNode ++ blanks) (nodeSize * m) nodeSize
   unfolding nodeOf headB
   node-at m =
-      let long : length (headB v n 1 0 ++ tops) + nodeSize * m ≡ nodeAt v m = omega (arith, length-append (headB v n 1 0) tops, ok .tops-long) in
+      let long : length (headB v n 1 0 ++ cellsB v tops) + nodeSize * m ≡ nodeAt v m = omega (arith, length-append (headB v n 1 0) (cellsB v tops), cells-length v tops) in
       ap (λ (w : ℕ). part t (nodeAt w m) nodeSize) vars-is
       ∙ ap (λ (l : List ℕ). part l (nodeAt v m) nodeSize) split
-      ∙ ap (λ (k : ℕ). part ((headB v n 1 0 ++ tops) ++ (topNode ++ blanks)) k nodeSize) (sym long)
-      ∙ part-right (headB v n 1 0 ++ tops) (topNode ++ blanks) (nodeSize * m) nodeSize
+      ∙ ap (λ (k : ℕ). part ((headB v n 1 0 ++ cellsB v tops) ++ (topNode ++ blanks)) k nodeSize) (sym long)
+      ∙ part-right (headB v n 1 0 ++ cellsB v tops) (topNode ++ blanks) (nodeSize * m) nodeSize
 
   top-at : nodeOf t 0 ≡ topNode
   unfolding part topNode
@@ -173,12 +215,17 @@ module _ (v n : ℕ) (tops rest : List ℕ) (ok : OpenFits v n tops) where
   by-any g a p q zero = ap g top-node ∙ p
   by-any g a p q (suc m) = ap g (blank-node (suc m) (omega arith)) ∙ q
 
+  -- its bare cell is the one handed in
+  bare-at : (x : ℕ) → x < v → bareC (cells t x) ≡ topC tops x
+  unfolding topC
+  bare-at x h = ap bareC (cell-in t x (omega (arith, vars-is)) ∙ cell-at x h) ∙ bare-whole (topC tops x) (bare-length (part tops (bareSize * x) bareSize))
+
   cell-seen : (x : ℕ) → asCell (bareC (cells t x)) ≡ topCells v tops x
-  unfolding topCells topC bareC
+  unfolding topCells bareC
   cell-seen x = go (decLt x v)
     where
       go : Dec (x < v) → asCell (bareC (cells t x)) ≡ topCells v tops x
-      go (yes h) = rw (lt-ltb x v h) (ap (λ (p : List ℕ). asCell (bareC p)) (cell-in t x (omega (arith, vars-is)) ∙ cell-at x h))
+      go (yes h) = rw (lt-ltb x v h) (ap asCell (bare-at x h))
       go (no h) = rw (le-ltb x v (omega arith)) (ap (λ (p : List ℕ). asCell (bareC p)) (cell-past t x (omega (arith, vars-is))) ∙ as-blank)
 
   what-cond : (b : Bool) → cond b top blank ≡ openWhat b
@@ -208,10 +255,7 @@ module _ (v n : ℕ) (tops rest : List ℕ) (ok : OpenFits v n tops) where
 
   module _ (proper : (x : ℕ) → x < v → ProperCell (topC tops x)) where
     cell-proper : (x : ℕ) → x < vars t → ProperCell (bareC (cells t x))
-    unfolding topC
-    cell-proper x h =
-        let k : x < v = omega (arith, vars-is) in
-        rw (cell-in t x h, cell-at x k) (proper x k)
+    cell-proper x h = let k : x < v = omega (arith, vars-is) in rw (bare-at x k) (proper x k)
 
     long : sizeOf (vars t) (room t) ≤ length t
     long = rw (vars-is, room-is) (omega (arith, length-append (openB v n tops) rest, size-is))

@@ -71,6 +71,10 @@ bareC p = getD p 0 0 ∷ getD p 1 0 ∷ getD p 2 0 ∷ getD p 3 0 ∷ getD p 4 0
 unfoldable pub putC : List ℕ → List ℕ → List ℕ
 putC p c = set (set (set (set (set p 0 (getD c 0 0)) 1 (getD c 1 0)) 2 (getD c 2 0)) 3 (getD c 3 0)) 4 (getD c 4 0)
 
+-- a whole cell, new, with the bare cell c: today nothing else
+unfoldable pub cellB : List ℕ → List ℕ
+cellB c = getD c 0 0 ∷ getD c 1 0 ∷ getD c 2 0 ∷ getD c 3 0 ∷ getD c 4 0 ∷ []
+
 -- the bare cell of x in open's top cells
 unfoldable pub topC : List ℕ → ℕ → List ℕ
 topC tops x = bareC (part tops (bareSize * x) bareSize)

@@ -24,7 +24,7 @@ use Rattle.rules.specs.Meaning.{home-means}
 use Rattle.rules.specs.Effects.{SameDeep}
 use Rattle.layout.specs.Limits.{header, cellSize, bareSize, nodeSize, cellAt, nodeAt, sizeOf}
 use Rattle.layout.specs.Bytes.{part, part-at, part-length, u16, by-tab}
-use Rattle.layout.specs.Records.{headOf, headN, vars, room, made, focus, ProperCell, bitsC, cellOf, bareC, nodeOf, kindN, parentN, varN, postN, storedN, depthN, nodeB, topNode, blankNode}
+use Rattle.layout.specs.Records.{headOf, headN, vars, room, made, focus, ProperCell, bitsC, cellOf, bareC, cellB, nodeOf, kindN, parentN, varN, postN, storedN, depthN, nodeB, topNode, blankNode}
 use Rattle.layout.specs.Kinds.{isIn, Node, binding-out, binding-in, wind-out, wind-in, node-kind, IsBinding, IsWind, IsNode}
 use Rattle.layout.specs.Fields.{cells, nodes, fieldsOf, past}
 use Rattle.layout.specs.View.{asCell, whatN, upN, treeF, viewF, view}
@@ -34,7 +34,7 @@ use Rattle.layout.specs.Events.{bit}
 use Rattle.layout.specs.Made.{IsMade}
 use Rattle.layout.specs.Becomes.{Becomes}
 use Rattle.layout.specs.Laws.{of-buffer, node-in, cell-in, node-past, cell-past}
-use Rattle.layout.specs.RecordLaws.{bare-length, stored-length, as-blank}
+use Rattle.layout.specs.RecordLaws.{bare-length, stored-length, cell-again, as-blank}
 use Rattle.layout.specs.OpenLaws.{stored-top, stored-blank}
 use Rattle.layout.specs.SoundLaws.{what-binding, what-wind, up-node, Place, is-top, is-inner, is-blank, place, blank-node, sound-fit, sound-view, sound-ranked, up-inner, what-top, what-blank, shape-inners, shape-blanks}
 use Rattle.layout.specs.WalkLaws.{made-seen, seen-made}
@@ -74,9 +74,14 @@ node-again = by-tab nodeSize (λ p. BytesTo nodeSize p → nodeB (kindN p) (pare
     f 8 ∷ f 9 ∷ f 10 ∷ f 11 ∷
     low (f 12) (f 13) (b 12 (omega arith)) i ∷ high (f 12) (f 13) (b 12 (omega arith)) i ∷ []
 
-bare-again : (p : List ℕ) → length p ≡ cellSize → bareC p ≡ p
+bare-bytes : (p : List ℕ) → BytesTo cellSize p → BytesTo bareSize (bareC p)
 unfolding bareC
-bare-again = by-tab cellSize (λ p. bareC p ≡ p) (λ f. refl)
+bare-bytes p b zero h = b 0 (omega arith)
+bare-bytes p b (suc zero) h = b 1 (omega arith)
+bare-bytes p b (suc (suc zero)) h = b 2 (omega arith)
+bare-bytes p b (suc (suc (suc zero))) h = b 3 (omega arith)
+bare-bytes p b (suc (suc (suc (suc zero)))) h = b 4 (omega arith)
+bare-bytes p b (suc (suc (suc (suc (suc i))))) h = absurd (omega arith)
 
 -- ---- a proper cell of bytes is what it is seen as
 two-once : (a m b n : ℕ) → a < 256 → b < 256 → a + 256 * m ≡ b + 256 * n → (a ≡ b) × (m ≡ n)
@@ -247,11 +252,11 @@ module _ (s t : List ℕ) (ok : Sound s) (ok′ : Sound t) (bytes : Bytes s) (by
       let h′ : x < vars t = omega arith in
       let l : length (cells s x) ≡ cellSize = of-buffer s (sound-fit s ok) .cell-long x in
       let l′ : length (cells t x) ≡ cellSize = of-buffer t (sound-fit t ok′) .cell-long x in
-      let e : bareC (cells s x) ≡ cellOf s x = bare-again (cells s x) l ∙ cell-in s x h in
-      let e′ : bareC (cells t x) ≡ cellOf t x = bare-again (cells t x) l′ ∙ cell-in t x h′ in
-      sym e ∙ cell-once (bareC (cells s x)) (bareC (cells t x)) (bare-length (cells s x)) (bare-length (cells t x))
-      (rw e (part-bytes s (cellAt x) cellSize bytes)) (rw e′ (part-bytes t (cellAt x) cellSize bytes′))
-      (ok .fields .shape .cells x h) (ok′ .fields .shape .cells x h′) (ap (λ (w : store.Store). w .values .cell x) same) ∙ e′
+      let bare : bareC (cells s x) ≡ bareC (cells t x) =
+      cell-once (bareC (cells s x)) (bareC (cells t x)) (bare-length (cells s x)) (bare-length (cells t x))
+      (bare-bytes (cells s x) (rw (cell-in s x h) (part-bytes s (cellAt x) cellSize bytes))) (bare-bytes (cells t x) (rw (cell-in t x h′) (part-bytes t (cellAt x) cellSize bytes′)))
+      (ok .fields .shape .cells x h) (ok′ .fields .shape .cells x h′) (ap (λ (w : store.Store). w .values .cell x) same) in
+      sym (cell-in s x h) ∙ sym (cell-again (cells s x) l) ∙ ap cellB bare ∙ cell-again (cells t x) l′ ∙ cell-in t x h′
 
   -- a node
   same-node : (n : ℕ) → n < room s → nodeOf s n ≡ nodeOf t n

@@ -5,7 +5,7 @@ ghost use mathlib.Core.List.{List};
 ghost use Prim.Native.Nat.{ℕ, _+_, _*_, _<_, _≤_};
 ghost use lib.ListN.{length, getD, replicate};
 ghost use Rattle.rules.specs.Modes.{count};
-ghost use Rattle.layout.specs.Limits.{bareSize, nodeSize};
+ghost use Rattle.layout.specs.Limits.{maxVars, bareSize, nodeSize};
 ghost use Rattle.layout.specs.Records.{vars, made, ProperCell, bareC, topC, kindN, parentN, varN, postN, storedN, blankCell, topNode};
 ghost use Rattle.layout.specs.CheckLaws.{modeF, Counted, Rises, AllRise};
 ghost use Rattle.layout.specs.Fields.{Fit, fieldsOf, nodes};
@@ -28,6 +28,7 @@ use crate::records::parent_of;
 use crate::records::post_in;
 use crate::records::room_of;
 use crate::records::stored_of;
+use crate::records::top_cell;
 use crate::records::var_in;
 use crate::records::vars_of;
 use layout::Store;
@@ -115,14 +116,12 @@ fn cells_ok(s: &[u8]) -> bool
 
 // Open's top cells: each proper, where there are 5V bytes.
 pub(crate) fn tops_ok(tops: &[u8], v: usize) -> bool
-    requires { ⌜ length (now tops) ≡ bareSize * v ⌝ }
+    requires { ⌜ (v ≤ maxVars) × (length (now tops) ≡ bareSize * v) ⌝ }
     ensures { λ r. ⌜ Says r ((x : ℕ) → x < v → ProperCell (topC (now (tops .entry)) x)) ⌝ }
 {
     let mut x = 0;
     while x < v {
-        let a = Store::BARE * x;
-        let e = a + Store::BARE;
-        if !proper(bare_of(&tops[a..e])) {
+        if !proper(top_cell(tops, x)) {
             return false;
         }
         x += 1;

@@ -1,25 +1,17 @@
-// Writing an opened store: the header, the top cells as they were handed in, the top, and blanks for the rest of the room.
+// Writing an opened store: the header, a new cell for each top cell as it was handed in, the top, and blanks for the rest of the room.
 ghost use mathlib.Core.Path.{_≡_};
 ghost use mathlib.Core.List.{_++_};
-ghost use Prim.Native.Nat.{_<_, _≤_};
+ghost use Prim.Native.Nat.{_*_, _<_, _≤_};
 ghost use lib.ListN.{length, drop, replicate};
-ghost use Rattle.layout.specs.Limits.{header, nodeSize, sizeOf};
-ghost use Rattle.layout.specs.Writes.{headB, openB};
+ghost use Rattle.layout.specs.Limits.{maxVars, header, cellSize, bareSize, nodeSize, cellAt, sizeOf};
+ghost use Rattle.layout.specs.Bytes.{splice};
+ghost use Rattle.layout.specs.Writes.{headB, cellsB, openB};
 ghost use Rattle.layout.specs.OpenLaws.{nodesB};
 ghost use Rattle.layout.specs.Opening.{OpenFits};
 use crate::number::put16_at;
+use crate::records::new_cell;
+use crate::records::top_cell;
 use layout::Store;
-
-fn copy(dst: &mut [u8], src: &[u8])
-    requires { ⌜ length (now dst) ≡ length (now src) ⌝ }
-    ensures { λ _. ⌜ now (dst .exit) ≡ now (src .entry) ⌝ }
-{
-    let mut i = 0;
-    while i < src.len() {
-        dst[i] = src[i];
-        i += 1;
-    }
-}
 
 fn clear(p: &mut [u8])
     ensures { λ _. ⌜ now (p .exit) ≡ replicate (length (now (p .entry))) 0 ⌝ }
@@ -42,6 +34,18 @@ fn put_head(p: &mut [u8], v: usize, n: usize)
     put16_at(p, 6, 0);
 }
 
+// The cells of v variables, one by one.
+fn put_cells(s: &mut [u8], v: usize, tops: &[u8])
+    requires { ⌜ (v ≤ maxVars) × ((length (now tops) ≡ bareSize * v) × (cellAt v ≤ length (now s))) ⌝ }
+    ensures { λ _. ⌜ now (s .exit) ≡ splice (now (s .entry)) header (cellSize * v) (cellsB v (now (tops .entry))) ⌝ }
+{
+    let mut x = 0;
+    while x < v {
+        new_cell(s, x, top_cell(tops, x));
+        x += 1;
+    }
+}
+
 // The top, then blanks.
 fn put_nodes(p: &mut [u8])
     requires { ⌜ nodeSize ≤ length (now p) ⌝ }
@@ -59,6 +63,6 @@ pub(crate) fn open_at(s: &mut [u8], v: usize, n: usize, tops: &[u8])
     let a = Store::HEADER + Store::CELL * v;
     let e = a + Store::NODE * n;
     put_head(&mut s[0..Store::HEADER], v, n);
-    copy(&mut s[Store::HEADER..a], tops);
+    put_cells(s, v, tops);
     put_nodes(&mut s[a..e]);
 }

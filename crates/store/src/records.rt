@@ -5,7 +5,7 @@ ghost use mathlib.Core.List.{List, [], _∷_};
 ghost use Prim.Native.Nat.{ℕ, _+_, _*_, _<_, _≤_};
 ghost use lib.ListN.{length, getD};
 ghost use Rattle.layout.specs.Limits.{header, cellSize, bareSize, nodeSize, cellAt, nodeAt};
-ghost use Rattle.layout.specs.Records.{headN, withHead, vars, room, made, focus, withFocus, withMade, cellOf, withCell, bareC, putC, nodeOf, withNode, kindN, parentN, varN, postN, storedN, depthN, turnN, swapN, nodeB};
+ghost use Rattle.layout.specs.Records.{headN, withHead, vars, room, made, focus, withFocus, withMade, cellOf, withCell, bareC, putC, cellB, topC, nodeOf, withNode, kindN, parentN, varN, postN, storedN, depthN, turnN, swapN, nodeB};
 ghost use Rattle.layout.specs.Fields.{Fit};
 use crate::number::put16_at;
 use crate::number::u16_at;
@@ -72,12 +72,20 @@ pub(crate) fn set_focus(s: &mut [u8], f: usize)
 
 // ---- a cell
 
+// Where the cell of x begins.
+fn cell_at(x: usize) -> usize
+    requires { ⌜ x < 65536 ⌝ }
+    ensures { λ r. ⌜ r ≡ cellAt x ⌝ }
+{
+    Store::HEADER + Store::CELL * x
+}
+
 // The cell of x, as a part of the store.
 pub(crate) fn cell(s: &[u8], x: usize) -> &[u8]
     requires { ⌜ Fit (now s) × (x < vars (now s)) ⌝ }
     ensures { λ r. ⌜ (now r ≡ cellOf (now (s .entry)) x) × (length (now r) ≡ cellSize) ⌝ }
 {
-    let a = Store::HEADER + Store::CELL * x;
+    let a = cell_at(x);
     let e = a + Store::CELL;
     &s[a..e]
 }
@@ -105,9 +113,37 @@ pub(crate) fn set_cell(s: &mut [u8], x: usize, c: [u8; Store::BARE])
     requires { ⌜ Fit (now s) × (x < vars (now s)) ⌝ }
     ensures { λ _. ⌜ now (s .exit) ≡ withCell (now (s .entry)) x (putC (cellOf (now (s .entry)) x) c) ⌝ }
 {
-    let a = Store::HEADER + Store::CELL * x;
+    let a = cell_at(x);
     let e = a + Store::CELL;
     put_bare(&mut s[a..e], c);
+}
+
+// A whole new cell, with the bare cell c.
+fn put_cell(p: &mut [u8], c: [u8; Store::BARE])
+    requires { ⌜ length (now p) ≡ cellSize ⌝ }
+    ensures { λ _. ⌜ now (p .exit) ≡ cellB c ⌝ }
+{
+    put_bare(p, c);
+}
+
+// The new cell of x, in a store that is being opened.
+pub(crate) fn new_cell(s: &mut [u8], x: usize, c: [u8; Store::BARE])
+    requires { ⌜ (x < 65536) × (cellAt x + cellSize ≤ length (now s)) ⌝ }
+    ensures { λ _. ⌜ now (s .exit) ≡ withCell (now (s .entry)) x (cellB c) ⌝ }
+{
+    let a = cell_at(x);
+    let e = a + Store::CELL;
+    put_cell(&mut s[a..e], c);
+}
+
+// The bare cell of x in open's top cells.
+pub(crate) fn top_cell(tops: &[u8], x: usize) -> [u8; Store::BARE]
+    requires { ⌜ (x < 65536) × (bareSize * x + bareSize ≤ length (now tops)) ⌝ }
+    ensures { λ r. ⌜ r ≡ topC (now (tops .entry)) x ⌝ }
+{
+    let a = Store::BARE * x;
+    let e = a + Store::BARE;
+    bare_of(&tops[a..e])
 }
 
 // ---- a node

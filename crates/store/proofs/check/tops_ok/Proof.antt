@@ -1,14 +1,12 @@
 -- Of every cell passed it is known that it is proper; the first that is not refutes the statement.
-use mathlib.Core.Path.{ap, subst, _∙_}
+use mathlib.Core.Path.{subst}
 use mathlib.Core.List.{List}
 use Prim.Native.Nat.{ℕ, _-_, _<_, _≤_}
 use native.Mathlib.Omega.{arith}
-use borrow.Author.Needs.{needs}
 use Rattle.layout.specs.Sound.{Says}
-use Rattle.layout.specs.Records.{ProperCell, bareC, topC}
-use Rattle.layout.specs.Limits.{bareSize}
-use Rattle.layout.specs.Bytes.{seen}
+use Rattle.layout.specs.Records.{ProperCell, topC}
 use Rattle.layout.specs.CheckLaws.{held, refuted, below-more}
+use borrow.Author.Needs.{needs}
 use Rattle.store.proofs.check.tops_ok.Statement.{statement}
 use Rattle.store.proofs.check.tops_ok.Tie as tie
 
@@ -19,38 +17,20 @@ abbrev μ-loop : tie.MeasureT-loop
 μ-loop tops v x₀ x = v - x
 
 -- what is tested is the cell of x
-tested : (c : tie.After-proper Inv-loop μ-loop) → Says (c .proper .result) (ProperCell (topC (c .before .before .before .before .before .before .args .tops .now) (c .before .before .before .before .loop .x)))
-unfolding topC
-tested c =
-    let e = c .before .bare-of .ensures ∙ ap bareC (seen _ _ bareSize) in
-    subst (λ (d : List ℕ). Says (c .proper .result) (ProperCell d)) e (c .proper .ensures)
+tested : (c : tie.After-proper Inv-loop μ-loop) → Says (c .proper .result) (ProperCell (topC (c .before .before .before .before .before .args .tops .now) (c .before .before .before .loop .x)))
+tested c = subst (λ (d : List ℕ). Says (c .proper .result) (ProperCell d)) (c .before .top-cell .ensures) (c .proper .ensures)
 
 loop-holds : tie.Need-loop-holds Inv-loop μ-loop
 loop-holds c = (omega arith, λ k h. absurd (omega arith))
 
-mul-a : tie.Need-mul-a Inv-loop μ-loop
-mul-a c = omega arith
-
-add-e : tie.Need-add-e Inv-loop μ-loop
-add-e c = omega arith
-
-sub-bare-of : tie.Need-sub-bare-of Inv-loop μ-loop
-sub-bare-of c = omega arith
-
-part-bare-of-start : tie.Need-part-bare-of-start Inv-loop μ-loop
-part-bare-of-start c = omega arith
-
-part-bare-of-end : tie.Need-part-bare-of-end Inv-loop μ-loop
-part-bare-of-end c = omega arith
-
-bare-of-requires : tie.Need-bare-of-requires Inv-loop μ-loop
-bare-of-requires c κs = search needs
+top-cell-requires : tie.Need-top-cell-requires Inv-loop μ-loop
+top-cell-requires c κs = search needs
 
 proper-requires : tie.Need-proper-requires Inv-loop μ-loop
 proper-requires c κs = search needs
 
 returns : tie.Need-returns Inv-loop μ-loop
-returns c = λ ok. refuted (c .before .proper .result) (c .if1 .taken) (tested (c .before)) (ok (c .before .before .before .before .before .loop .x) (omega arith))
+returns c = λ ok. refuted (c .before .proper .result) (c .if1 .taken) (tested (c .before)) (ok (c .before .before .before .before .loop .x) (omega arith))
 
 add-x : tie.Need-add-x Inv-loop μ-loop
 add-x c = omega arith
@@ -60,7 +40,7 @@ loop-less c = search needs
 
 loop-again : tie.Need-loop-again Inv-loop μ-loop
 loop-again c =
-    let loop = c .before .before .before .before .before in
+    let loop = c .before .before .before .before in
     let tops = loop .before .before .args .tops .now in
     (omega arith, below-more (λ (k : ℕ). ProperCell (topC tops k)) (loop .loop .x) (loop .loop .inv .1) (held (c .before .proper .result) (c .if1 .left) (tested (c .before))))
 
@@ -74,12 +54,7 @@ tops-ok-spec =
     Inv-loop
     μ-loop
     loop-holds
-    mul-a
-    add-e
-    sub-bare-of
-    part-bare-of-start
-    part-bare-of-end
-    bare-of-requires
+    top-cell-requires
     proper-requires
     returns
     add-x
