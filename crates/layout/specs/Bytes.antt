@@ -1,14 +1,13 @@
 -- Parts of a list of bytes: the part that stands at a place, and the list with another part there.
 -- The laws are stated once, over the place and the width; who cites them closes the places by omega. Assumes nothing.
 use mathlib.Core.Path.{_≡_, refl, sym, ap, subst, _∙_}
-use mathlib.Core.Logic.{_≢_}
-use Prim.Native.Nat.{ℕ, zero, suc, _+_, _-_, _*_, _/_, _%_, _≤_, _<_, min}
+use Prim.Native.Nat.{ℕ, zero, suc, _+_, _-_, _*_, _/_, _%_, _≤_, _<_}
 use native.Mathlib.Nat.{add-sub-cancel-left}
 use native.Mathlib.Omega.{arith}
 use native.Mathlib.Decide.{decLe}
 use mathlib.Core.List.{List, [], _∷_, _++_, append-assoc}
-use lib.ListN.{length, getD, set, take, drop, length-set, length-append, length-take, length-drop, take-append-drop}
-use lib.Seq.{take-append-le, drop-append-le, drop-append-add, take-at, drop-at, drop-drop, take-take, length-take-le, getD-take, getD-drop, getD-set-same, getD-set-other}
+use lib.ListN.{length, getD, set, take, drop, replicate, length-set, length-replicate, getD-replicate, length-append, length-drop, take-append-drop}
+use lib.Seq.{ext-getD, take-append-le, drop-append-le, drop-append-add, take-at, drop-at, drop-drop, take-take, length-take-le, getD-take, getD-drop, getD-set-same, getD-set-other}
 
 -- the part from a on, n long
 unfoldable pub part : List ℕ → ℕ → ℕ → List ℕ
@@ -74,6 +73,15 @@ module _ (xs ys : List ℕ) (a n : ℕ) (long : length ys ≡ n) (fits : a + n �
   pub splice-same : part (splice xs a n ys) a n ≡ ys
   unfolding splice part
   splice-same = ap (take n) (drop-at (take a xs) (ys ++ drop n (drop a xs)) a front-length) ∙ take-at ys (drop n (drop a xs)) n long
+
+  -- another put there
+  pub splice-again : (zs : List ℕ) → splice (splice xs a n ys) a n zs ≡ splice xs a n zs
+  unfolding splice
+  splice-again zs =
+      let rest : List ℕ = ys ++ drop n (drop a xs) in
+      let front : take a (take a xs ++ rest) ≡ take a xs = take-at (take a xs) rest a front-length in
+      let behind : drop n (drop a (take a xs ++ rest)) ≡ drop n (drop a xs) = ap (drop n) (drop-at (take a xs) rest a front-length) ∙ drop-at ys (drop n (drop a xs)) n long in
+      λ i. front i ++ (zs ++ behind i)
 
   -- a part before it
   pub splice-before : (b m : ℕ) → b + m ≤ a → part (splice xs a n ys) b m ≡ part xs b m
@@ -187,3 +195,22 @@ tab-all (x ∷ xs) = ap (λ (r : List ℕ). x ∷ r) (tab-all xs)
 
 pub by-tab : (n : ℕ) (P : List ℕ → Type 0) → ((f : ℕ → ℕ) → P (tab n f)) → (p : List ℕ) → length p ≡ n → P p
 by-tab n P h p e = subst P (sym (tab-all p ∙ ap (λ (m : ℕ). tab m (λ i. getD p i 0)) e)) (h (λ i. getD p i 0))
+
+-- ---- bytes that are zero: those from a up to e
+abbrev pub Zeros : List ℕ → ℕ → ℕ → Type 0
+Zeros s a e = (i : ℕ) → a ≤ i → i < e → getD s i 0 ≡ 0
+
+pub zeros-list : (p : List ℕ) (n : ℕ) → length p ≡ n → Zeros p 0 n → p ≡ replicate n 0
+zeros-list p n e z =
+    ext-getD 0 p (replicate n 0) (e ∙ sym (length-replicate n 0))
+    (λ i h. z i (omega arith) (omega arith) ∙ sym (getD-replicate n i 0 0 (omega arith)))
+
+pub list-zeros : (p : List ℕ) (n : ℕ) → p ≡ replicate n 0 → Zeros p 0 n
+list-zeros p n e i l h = ap (λ (q : List ℕ). getD q i 0) e ∙ getD-replicate n i 0 0 h
+
+-- ---- the first n numbers are below 256, as memory holds them
+abbrev pub BytesTo : ℕ → List ℕ → Type 0
+BytesTo n p = (i : ℕ) → i < n → getD p i 0 < 256
+
+pub part-bytes : (xs : List ℕ) (a n : ℕ) → ((i : ℕ) → getD xs i 0 < 256) → BytesTo n (part xs a n)
+part-bytes xs a n b i h = rw (part-at xs a n i h) (b (a + i))

@@ -1,31 +1,30 @@
 -- What the soundness check needs: answers of tests carried from one statement to another, bytes that are zero, the count
 -- of the nodes that are in, and the modes. Assumes nothing.
 use mathlib.Core.Path.{_≡_, refl, sym, ap, subst, _∙_}
-use mathlib.Core.Logic.{_≢_, _⊎_, inl, inr, ⊎-elim}
+use mathlib.Core.Logic.{_⊎_, inl, inr, ⊎-elim}
 use mathlib.Core.Bool.{Bool, true, false, not}
 use mathlib.Core.Option.{some}
-use mathlib.Core.List.{List, [], _∷_}
-use Prim.Native.Nat.{ℕ, zero, suc, _+_, _-_, _/_, _%_, _≤_, _<_}
+use mathlib.Core.List.{List, _∷_}
+use Prim.Native.Nat.{ℕ, zero, suc, _+_, _-_, _≤_, _<_}
 use native.Mathlib.Nat.{le-refl}
 use native.Mathlib.Omega.{arith}
 use native.Mathlib.Numerals.{add-one}
 use native.Mathlib.Decide.{ℕ-discrete}
 use lib.Dec.{eqb, ltb}
-use lib.ListN.{length, getD, take, drop, replicate, length-drop, length-replicate, getD-replicate}
-use lib.Seq.{length-take-le, getD-take, getD-drop, ext-getD}
+use lib.ListN.{length, getD, take, drop, replicate, length-drop}
+use lib.Seq.{length-take-le, getD-take, getD-drop}
 use borrow.Author.Tests.{eqb-true, eqb-false, ltb-true, ltb-false}
 use Rattle.rules.specs.Basic.{on, clash, on-head, on-cases}
 use Rattle.rules.specs.Tree.{Tree, Proper, path, path-top, path-up, path-once, downward, on-path-above, rank-depth}
 use Rattle.rules.specs.Modes.{num, count, count-on, modes-by-count}
-use Rattle.layout.specs.Limits.{nodeSize, nodeAt}
-use Rattle.layout.specs.Bytes.{part, part-at, part-length}
-use Rattle.layout.specs.Records.{vars, room, made, nodeOf, kindN, parentN, depthN, topNode, blankNode}
+use Rattle.layout.specs.Bytes.{Zeros, zeros-list, list-zeros}
+use Rattle.layout.specs.Records.{made, kindN, parentN, depthN, topNode}
 use Rattle.layout.specs.Kinds.{isIn, isOut, node-kind, out-not-in, not-false}
-use Rattle.layout.specs.Fields.{Fields, fieldsOf, Fit, madeF, focusF}
+use Rattle.layout.specs.Fields.{Fields, fieldsOf, madeF, focusF}
 use Rattle.layout.specs.View.{upN, treeF}
 use Rattle.layout.specs.Sound.{Says, Shape, Ins, Sound}
-use Rattle.layout.specs.Laws.{node-in, OfBuffer, of-buffer}
-use Rattle.layout.specs.SoundLaws.{BlanksOk, Place, is-top, is-inner, is-blank, place, out-top, shape-inners, parents-made, inner-up, up-inner, shape-proper, shape-ranked, path-made, modes-by-numbers, sound-fit}
+use Rattle.layout.specs.Laws.{OfBuffer, of-buffer}
+use Rattle.layout.specs.SoundLaws.{Place, is-top, is-inner, is-blank, place, out-top, shape-inners, parents-made, inner-up, up-inner, shape-proper, shape-ranked, path-made, modes-by-numbers, sound-fit}
 
 -- ---- tests
 pub says-map : (b : Bool) {P Q : Type 0} → (P → Q) → (Q → P) → Says b P → Says b Q
@@ -63,11 +62,7 @@ below-more P n all one k h = go (ℕ-discrete k n)
     go (yes e) = subst P (sym e) one
     go (no e) = all k (omega arith)
 
--- ---- bytes that are zero: those from a up to e
-abbrev pub Zeros : List ℕ → ℕ → ℕ → Type 0
-Zeros s a e = (i : ℕ) → a ≤ i → i < e → getD s i 0 ≡ 0
-
--- one byte more
+-- ---- bytes that are zero, and one byte more
 module _ (p : List ℕ) (i : ℕ) where
   pub zeros-on : (other : ℕ) → getD p i 0 ≤ other → Says (eqb other 0) (Zeros p 0 i) → Says (eqb other 0) (Zeros p 0 (i + 1))
   zeros-on other e = go (eqb other 0) refl
@@ -82,14 +77,6 @@ module _ (p : List ℕ) (i : ℕ) where
       go : (b : Bool) → eqb (getD p i 0) 0 ≡ b → Says b (Zeros p 0 (i + 1))
       go true q = absurd (omega (arith, eqb-true (getD p i 0) 0 q))
       go false q = λ z. omega (arith, z i (omega arith) (omega arith))
-
-pub zeros-list : (p : List ℕ) (n : ℕ) → length p ≡ n → Zeros p 0 n → p ≡ replicate n 0
-zeros-list p n e z =
-    ext-getD 0 p (replicate n 0) (e ∙ sym (length-replicate n 0))
-    (λ i h. z i (omega arith) (omega arith) ∙ sym (getD-replicate n i 0 0 (omega arith)))
-
-pub list-zeros : (p : List ℕ) (n : ℕ) → p ≡ replicate n 0 → Zeros p 0 n
-list-zeros p n e i l h = ap (λ (q : List ℕ). getD q i 0) e ∙ getD-replicate n i 0 0 h
 
 -- a part s[a..e]
 module _ (s : List ℕ) (a e : ℕ) (le : a ≤ e) (fits : e ≤ length s) where
@@ -109,50 +96,6 @@ module _ (s : List ℕ) (a e : ℕ) (le : a ≤ e) (fits : e ≤ length s) where
 
       from : Zeros s a e → take (e - a) (drop a s) ≡ replicate (e - a) 0
       from z = zeros-list _ (e - a) lent-length (λ i l h. lent-byte i h ∙ z (a + i) (omega arith) (omega arith))
-
--- the top: kind 1, and zero from the next byte on
-module _ (p : List ℕ) (long : length p ≡ nodeSize) where
-  pub top-bytes : getD p 0 0 ≡ 1 → Zeros p 1 nodeSize → p ≡ topNode
-  unfolding topNode
-  top-bytes e z = ext-getD 0 p topNode long (λ i h. go i (omega arith) (ℕ-discrete i 0))
-    where
-      rest : (i : ℕ) → i < nodeSize - 1 → getD topNode (suc i) 0 ≡ 0
-      rest i h = getD-replicate (nodeSize - 1) i 0 0 h
-
-      go : (i : ℕ) → i < nodeSize → Dec (i ≡ 0) → getD p i 0 ≡ getD topNode i 0
-      go i h (yes q) = rw q e
-      go zero h (no q) = absurd (q refl)
-      go (suc i) h (no q) = z (suc i) (omega arith) h ∙ sym (rest i (omega arith))
-
-  pub bytes-top : p ≡ topNode → (getD p 0 0 ≡ 1) × Zeros p 1 nodeSize
-  unfolding topNode
-  bytes-top e = (ap (λ (q : List ℕ). getD q 0 0) e, λ i l h. ap (λ (q : List ℕ). getD q i 0) e ∙ rest i l h)
-    where
-      rest : (i : ℕ) → 1 ≤ i → i < nodeSize → getD topNode i 0 ≡ 0
-      rest zero l h = absurd (omega arith)
-      rest (suc i) l h = getD-replicate (nodeSize - 1) i 0 0 (omega arith)
-
--- the nodes from made on are blank where their bytes are zero
-module _ (s : List ℕ) (fit : Fit s) where
-  pub zeros-blanks : Zeros s (nodeAt (vars s) (made s)) (nodeAt (vars s) (room s)) → BlanksOk (fieldsOf s)
-  unfolding fieldsOf nodeOf blankNode
-  zeros-blanks z n l h =
-      let at = nodeAt (vars s) n in
-      node-in s n h
-      ∙ zeros-list (part s at nodeSize) nodeSize (part-length s at nodeSize (omega arith))
-      (λ i _ k. part-at s at nodeSize i k ∙ z (at + i) (omega arith) (omega arith))
-
-  pub blanks-zeros : BlanksOk (fieldsOf s) → Zeros s (nodeAt (vars s) (made s)) (nodeAt (vars s) (room s))
-  unfolding fieldsOf nodeOf blankNode
-  blanks-zeros b i l h =
-      let o = i - nodeAt (vars s) 0 in
-      let n = o / nodeSize in
-      let j = o % nodeSize in
-      let at = nodeAt (vars s) n in
-      let m : n < room s = omega arith in
-      let k : at + j ≡ i = omega arith in
-      let q : part s at nodeSize ≡ replicate nodeSize 0 = sym (node-in s n m) ∙ b n (omega arith) m in
-      ap (λ (x : ℕ). getD s x 0) (sym k) ∙ sym (part-at s at nodeSize j (omega arith)) ∙ list-zeros _ nodeSize q j (omega arith) (omega arith)
 
 -- ---- how many are in: of the nodes 1 to n-1, k, counted one by one; the top is left out
 pub record Counted (b : ℕ → Bool) (n k : ℕ) : Type 0 where

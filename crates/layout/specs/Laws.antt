@@ -1,20 +1,20 @@
 -- What is read after a write. The header, the cells and the nodes are apart, so each write changes one field of `Fields`,
 -- the buffer keeps its length and the bytes past the size stay. Assumes nothing.
--- Of the laws, these know the records' places and RecordLaws the fields'; CheckLaws, OpenLaws and Same know some of both.
-use mathlib.Core.Path.{_≡_, refl, sym, ap, subst, _∙_, fun-ext}
+-- Of the laws, these and PlaceLaws know the records' places, and RecordLaws the fields'.
+use mathlib.Core.Path.{_≡_, sym, ap, _∙_, fun-ext}
 use mathlib.Core.Logic.{_≢_}
-use mathlib.Core.Bool.{Bool, true, false, cond}
-use Prim.Native.Nat.{ℕ, zero, suc, _+_, _-_, _*_, _≤_, _<_}
+use mathlib.Core.Bool.{cond}
+use Prim.Native.Nat.{ℕ, _+_, _*_, _≤_, _<_}
 use native.Mathlib.Omega.{arith}
 use native.Mathlib.Decide.{decLt, ℕ-discrete}
-use mathlib.Core.List.{List, [], _∷_}
-use lib.Dec.{eqb, ltb}
-use lib.ListN.{length, getD, set, drop, replicate, length-set}
+use mathlib.Core.List.{List}
+use lib.Dec.{eqb}
+use lib.ListN.{length, drop, replicate}
 use borrow.Author.Tests.{lt-ltb, le-ltb, ne-eqb}
 use Rattle.rules.specs.Basic.{upd, upd-same, upd-other, eqb-self}
-use Rattle.layout.specs.Limits.{header, cellSize, bareSize, nodeSize, cellAt, nodeAt, sizeOf}
-use Rattle.layout.specs.Bytes.{part, splice, u16, put16, part-length, splice-length, splice-same, splice-before, splice-after, splice-apart, splice-drop, put16-length, u16-same, u16-other, tab, by-tab}
-use Rattle.layout.specs.Records.{headOf, headN, withHead, vars, room, cellOf, withCell, bareC, putC, nodeOf, withNode, kindN, parentN, varN, postN, storedN, turnN, swapN, blankNode}
+use Rattle.layout.specs.Limits.{header, cellSize, nodeSize, cellAt, nodeAt, sizeOf}
+use Rattle.layout.specs.Bytes.{part, u16, put16, part-length, splice-length, splice-same, splice-before, splice-after, splice-apart, splice-drop, put16-length, u16-same, u16-other}
+use Rattle.layout.specs.Records.{headOf, headN, withHead, vars, room, cellOf, withCell, nodeOf, withNode, blankNode}
 use Rattle.layout.specs.Fields.{Fields, varsF, roomF, cells, nodes, fieldsOf, Fit, past}
 
 -- ---- the records of a buffer

@@ -13,6 +13,7 @@ pub mod Made
 pub mod Becomes
 pub mod Laws
 pub mod RecordLaws
+pub mod PlaceLaws
 pub mod SoundLaws
 pub mod MoveLaws
 pub mod Reading

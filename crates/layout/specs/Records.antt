@@ -23,6 +23,13 @@ headN s k = u16 (headOf s) (2 * k)
 unfoldable pub withHead : List ℕ → ℕ → ℕ → List ℕ
 withHead s k v = splice s 0 header (put16 (headOf s) (2 * k) v)
 
+-- a whole header, and the buffer with it
+unfoldable pub headB : ℕ → ℕ → ℕ → ℕ → List ℕ
+headB v n m f = v % 256 ∷ v / 256 ∷ n % 256 ∷ n / 256 ∷ m % 256 ∷ m / 256 ∷ f % 256 ∷ f / 256 ∷ []
+
+unfoldable pub withHeader : List ℕ → List ℕ → List ℕ
+withHeader s h = splice s 0 header h
+
 abbrev pub vars : List ℕ → ℕ
 vars s = headN s 0
 
@@ -64,6 +71,10 @@ cellOf s x = part s (cellAt x) cellSize
 unfoldable pub withCell : List ℕ → ℕ → List ℕ → List ℕ
 withCell s x c = splice s (cellAt x) cellSize c
 
+-- the buffer with the first v cells replaced
+unfoldable pub withCells : List ℕ → ℕ → List ℕ → List ℕ
+withCells s v cs = splice s header (cellSize * v) cs
+
 -- the bare cell in its record, and the record with another
 unfoldable pub bareC : List ℕ → List ℕ
 bareC p = getD p 0 0 ∷ getD p 1 0 ∷ getD p 2 0 ∷ getD p 3 0 ∷ getD p 4 0 ∷ []
@@ -85,6 +96,10 @@ nodeOf s n = part s (nodeAt (vars s) n) nodeSize
 
 unfoldable pub withNode : List ℕ → ℕ → List ℕ → List ℕ
 withNode s n p = splice s (nodeAt (vars s) n) nodeSize p
+
+-- the buffer with the first n nodes behind v cells replaced
+unfoldable pub withNodes : List ℕ → ℕ → ℕ → List ℕ → List ℕ
+withNodes s v n ps = splice s (cellAt v) (nodeSize * n) ps
 
 unfoldable pub kindN : List ℕ → ℕ
 kindN p = getD p 0 0

@@ -5,36 +5,33 @@ use mathlib.Core.Path.{_≡_, refl, sym, ap, _∙_, fun-ext}
 use mathlib.Core.Logic.{inl, inr, _≢_}
 use mathlib.Core.Bool.{Bool, true, false}
 use mathlib.Core.Option.{some}
-use Prim.Native.Nat.{ℕ, zero, suc, _+_, _-_, _*_, _/_, _%_, _≤_, _<_}
+use Prim.Native.Nat.{ℕ, zero, suc, _+_, _≤_, _<_}
 use native.Mathlib.Omega.{arith}
-use native.Mathlib.Decide.{decLt, decLe}
+use native.Mathlib.Decide.{decLt}
 use mathlib.Core.List.{List, [], _∷_, _++_}
 use lib.ListN.{length, getD, take, drop, take-append-drop, length-take}
 use lib.Seq.{ext-getD, getD-take, length-take-le, take-take}
-use mir.Syntax.{w32}
-use mir.Val.{Fits, ofZ, toZ}
-use mir.ValLaws.{ofZ-toZ}
 use Rattle.rules.specs.Basic.{eqb-self, on}
 use Rattle.rules.specs.Tree.{top, binding, wind, path, path-up, What, blank, Proper, ranks-once}
-use Rattle.rules.specs.Values.{unbound, value}
+use Rattle.rules.specs.Values.{unbound}
 use Rattle.rules.specs.Store as store
 use Rattle.rules.specs.Store.{home}
 use Rattle.rules.specs.Calls.{deciderAt, valueAt, look-right}
 use Rattle.rules.specs.Meaning.{home-means}
 use Rattle.rules.specs.Effects.{SameDeep}
-use Rattle.layout.specs.Limits.{header, cellSize, bareSize, nodeSize, cellAt, nodeAt, sizeOf}
-use Rattle.layout.specs.Bytes.{part, part-at, part-length, u16, by-tab}
-use Rattle.layout.specs.Records.{headOf, headN, vars, room, made, focus, ProperCell, bitsC, cellOf, bareC, cellB, nodeOf, kindN, parentN, varN, postN, storedN, depthN, nodeB, topNode, blankNode}
+use Rattle.layout.specs.Limits.{cellSize, nodeSize, sizeOf}
+use Rattle.layout.specs.Bytes.{part, BytesTo}
+use Rattle.layout.specs.Records.{headOf, headB, vars, room, made, focus, cellOf, bareC, cellB, nodeOf, kindN, parentN, varN, postN, storedN, depthN, nodeB}
 use Rattle.layout.specs.Kinds.{isIn, Node, binding-out, binding-in, wind-out, wind-in, node-kind, IsBinding, IsWind, IsNode}
 use Rattle.layout.specs.Fields.{cells, nodes, fieldsOf, past}
 use Rattle.layout.specs.View.{asCell, whatN, upN, treeF, viewF, view}
 use Rattle.layout.specs.Sound.{NodeOk, depthAbove, Sound}
-use Rattle.layout.specs.Writes.{headB}
 use Rattle.layout.specs.Events.{bit}
 use Rattle.layout.specs.Made.{IsMade}
 use Rattle.layout.specs.Becomes.{Becomes}
 use Rattle.layout.specs.Laws.{of-buffer, node-in, cell-in, node-past, cell-past}
-use Rattle.layout.specs.RecordLaws.{bare-length, stored-length, cell-again, as-blank}
+use Rattle.layout.specs.RecordLaws.{bare-length, stored-length, cell-again, node-again, bare-bytes, stored-bytes, cell-once, as-blank}
+use Rattle.layout.specs.PlaceLaws.{head-said, cell-bytes, node-bytes, alike-number, alike-cell, alike-node, at-each}
 use Rattle.layout.specs.OpenLaws.{stored-top, stored-blank}
 use Rattle.layout.specs.SoundLaws.{what-binding, what-wind, up-node, Place, is-top, is-inner, is-blank, place, blank-node, sound-fit, sound-view, sound-ranked, up-inner, what-top, what-blank, shape-inners, shape-blanks}
 use Rattle.layout.specs.WalkLaws.{made-seen, seen-made}
@@ -42,93 +39,6 @@ use Rattle.layout.specs.WalkLaws.{made-seen, seen-made}
 -- every number is below 256 (past the end `getD` gives 0)
 abbrev pub Bytes : List ℕ → Type 0
 Bytes xs = (i : ℕ) → getD xs i 0 < 256
-
--- .. of the first n
-abbrev BytesTo : ℕ → List ℕ → Type 0
-BytesTo n p = (i : ℕ) → i < n → getD p i 0 < 256
-
-part-bytes : (xs : List ℕ) (a n : ℕ) → Bytes xs → BytesTo n (part xs a n)
-part-bytes xs a n b i h = rw (part-at xs a n i h) (b (a + i))
-
--- ---- a record is what its fields say
-low : (a b : ℕ) → a < 256 → (a + 256 * b) % 256 ≡ a
-low a b h = omega arith
-
-high : (a b : ℕ) → a < 256 → (a + 256 * b) / 256 ≡ b
-high a b h = omega arith
-
-head-again : (p : List ℕ) → length p ≡ header → BytesTo header p → headB (u16 p 0) (u16 p 2) (u16 p 4) (u16 p 6) ≡ p
-unfolding headB u16
-head-again = by-tab header (λ p. BytesTo header p → headB (u16 p 0) (u16 p 2) (u16 p 4) (u16 p 6) ≡ p) λ f b. λ i.
-    low (f 0) (f 1) (b 0 (omega arith)) i ∷ high (f 0) (f 1) (b 0 (omega arith)) i ∷
-    low (f 2) (f 3) (b 2 (omega arith)) i ∷ high (f 2) (f 3) (b 2 (omega arith)) i ∷
-    low (f 4) (f 5) (b 4 (omega arith)) i ∷ high (f 4) (f 5) (b 4 (omega arith)) i ∷
-    low (f 6) (f 7) (b 6 (omega arith)) i ∷ high (f 6) (f 7) (b 6 (omega arith)) i ∷ []
-
-node-again : (p : List ℕ) → length p ≡ nodeSize → BytesTo nodeSize p → nodeB (kindN p) (parentN p) (varN p) (postN p) (storedN p) (depthN p) ≡ p
-unfolding nodeB kindN parentN varN postN storedN depthN u16
-node-again = by-tab nodeSize (λ p. BytesTo nodeSize p → nodeB (kindN p) (parentN p) (varN p) (postN p) (storedN p) (depthN p) ≡ p) λ f b. λ i.
-    f 0 ∷ f 1 ∷ low (f 2) (f 3) (b 2 (omega arith)) i ∷ high (f 2) (f 3) (b 2 (omega arith)) i ∷
-    low (f 4) (f 5) (b 4 (omega arith)) i ∷ high (f 4) (f 5) (b 4 (omega arith)) i ∷
-    low (f 6) (f 7) (b 6 (omega arith)) i ∷ high (f 6) (f 7) (b 6 (omega arith)) i ∷
-    f 8 ∷ f 9 ∷ f 10 ∷ f 11 ∷
-    low (f 12) (f 13) (b 12 (omega arith)) i ∷ high (f 12) (f 13) (b 12 (omega arith)) i ∷ []
-
-bare-bytes : (p : List ℕ) → BytesTo cellSize p → BytesTo bareSize (bareC p)
-unfolding bareC
-bare-bytes p b zero h = b 0 (omega arith)
-bare-bytes p b (suc zero) h = b 1 (omega arith)
-bare-bytes p b (suc (suc zero)) h = b 2 (omega arith)
-bare-bytes p b (suc (suc (suc zero))) h = b 3 (omega arith)
-bare-bytes p b (suc (suc (suc (suc zero)))) h = b 4 (omega arith)
-bare-bytes p b (suc (suc (suc (suc (suc i))))) h = absurd (omega arith)
-
--- ---- a proper cell of bytes is what it is seen as
-two-once : (a m b n : ℕ) → a < 256 → b < 256 → a + 256 * m ≡ b + 256 * n → (a ≡ b) × (m ≡ n)
-two-once a m b n la lb q = (sym (low a m la) ∙ ap (λ (k : ℕ). k % 256) q ∙ low b n lb, sym (high a m la) ∙ ap (λ (k : ℕ). k / 256) q ∙ high b n lb)
-
-four-once : (a b c d e f g h : ℕ) → a < 256 → b < 256 → c < 256 → e < 256 → f < 256 → g < 256
-    → a + 256 * b + 65536 * c + 16777216 * d ≡ e + 256 * f + 65536 * g + 16777216 * h → (a ≡ e) × (b ≡ f) × (c ≡ g) × (d ≡ h)
-four-once a b c d e f g h la lb lc le lf lg q =
-    let p₁ : a + 256 * (b + 256 * (c + 256 * d)) ≡ e + 256 * (f + 256 * (g + 256 * h)) = omega arith in
-    let (first, p₂) = two-once a (b + 256 * (c + 256 * d)) e (f + 256 * (g + 256 * h)) la le p₁ in
-    let (second, p₃) = two-once b (c + 256 * d) f (g + 256 * h) lb lf p₂ in
-    let (third, fourth) = two-once c d g h lc lg p₃ in
-    (first, second, third, fourth)
-
-bits-fit : (c : List ℕ) → BytesTo bareSize c → Fits w32 (bitsC c)
-unfolding bitsC
-bits-fit c b = record { fits = omega (arith, b 1 (omega arith), b 2 (omega arith), b 3 (omega arith), b 4 (omega arith)) }
-
-as-bound : (c : List ℕ) → getD c 0 0 ≡ 1 → asCell c ≡ value (toZ w32 (bitsC c))
-unfolding asCell
-as-bound c e = rw e
-
-listed : (c : List ℕ) → length c ≡ bareSize → getD c 0 0 ∷ getD c 1 0 ∷ getD c 2 0 ∷ getD c 3 0 ∷ getD c 4 0 ∷ [] ≡ c
-listed = by-tab bareSize (λ c. getD c 0 0 ∷ getD c 1 0 ∷ getD c 2 0 ∷ getD c 3 0 ∷ getD c 4 0 ∷ [] ≡ c) (λ f. refl)
-
-same-bits : (c d : List ℕ) → length c ≡ bareSize → length d ≡ bareSize → BytesTo bareSize c → BytesTo bareSize d
-    → getD c 0 0 ≡ getD d 0 0 → bitsC c ≡ bitsC d → c ≡ d
-unfolding bitsC
-same-bits c d lc ld bc bd e q =
-    let (e₁, e₂, e₃, e₄) = four-once (getD c 1 0) (getD c 2 0) (getD c 3 0) (getD c 4 0) (getD d 1 0) (getD d 2 0) (getD d 3 0) (getD d 4 0)
-    (bc 1 (omega arith)) (bc 2 (omega arith)) (bc 3 (omega arith)) (bd 1 (omega arith)) (bd 2 (omega arith)) (bd 3 (omega arith)) q in
-    sym (listed c lc) ∙ (λ i. e i ∷ e₁ i ∷ e₂ i ∷ e₃ i ∷ e₄ i ∷ []) ∙ listed d ld
-
-cell-once : (c d : List ℕ) → length c ≡ bareSize → length d ≡ bareSize → BytesTo bareSize c → BytesTo bareSize d
-    → ProperCell c → ProperCell d → asCell c ≡ asCell d → c ≡ d
-cell-once c d lc ld bc bd (inl e) (inl f) q = e ∙ sym f
-cell-once c d lc ld bc bd (inl e) (inr f) q =
-    let z : unbound ≡ value (toZ w32 (bitsC d)) = sym as-blank ∙ ap asCell (sym e) ∙ q ∙ as-bound d f in
-    absurd (let y : _≡_ {A = ℕ} 0 1 = cc in omega arith)
-cell-once c d lc ld bc bd (inr e) (inl f) q =
-    let z : unbound ≡ value (toZ w32 (bitsC c)) = sym as-blank ∙ ap asCell (sym f) ∙ sym q ∙ as-bound c e in
-    absurd (let y : _≡_ {A = ℕ} 0 1 = cc in omega arith)
-cell-once c d lc ld bc bd (inr e) (inr f) q =
-    let z : value (toZ w32 (bitsC c)) ≡ value (toZ w32 (bitsC d)) = sym (as-bound c e) ∙ q ∙ as-bound d f in
-    let w : toZ w32 (bitsC c) ≡ toZ w32 (bitsC d) = cc in
-    let bits : bitsC c ≡ bitsC d = sym (ofZ-toZ w32 (bitsC c) (bits-fit c bc)) ∙ ap (ofZ w32) w ∙ ofZ-toZ w32 (bitsC d) (bits-fit d bd) in
-    same-bits c d lc ld bc bd (e ∙ sym f) bits
 
 -- ---- an inner node is what it is seen as
 -- its kind: a binding's or a wind's, and in or out
@@ -156,15 +66,6 @@ pub record SeenAlike (p q : List ℕ) : Type 0 where
 
 module _ (v n d e : ℕ) (p q : List ℕ) (op : NodeOk v n d p) (oq : NodeOk v n e q) (lp : length p ≡ nodeSize) (lq : length q ≡ nodeSize)
     (bp : BytesTo nodeSize p) (bq : BytesTo nodeSize q) (same : SeenAlike p q) where
-  stored-bytes : (r : List ℕ) → BytesTo nodeSize r → BytesTo bareSize (storedN r)
-  unfolding storedN
-  stored-bytes r b zero h = b 1 (omega arith)
-  stored-bytes r b (suc zero) h = b 8 (omega arith)
-  stored-bytes r b (suc (suc zero)) h = b 9 (omega arith)
-  stored-bytes r b (suc (suc (suc zero))) h = b 10 (omega arith)
-  stored-bytes r b (suc (suc (suc (suc zero)))) h = b 11 (omega arith)
-  stored-bytes r b (suc (suc (suc (suc (suc i))))) h = absurd (omega arith)
-
   -- both bindings, or both winds
   data Both : Type 0 where
     bindings : IsBinding (kindN p) → IsBinding (kindN q) → Both
@@ -214,11 +115,6 @@ module _ (v n d e : ℕ) (p q : List ℕ) (op : NodeOk v n d p) (oq : NodeOk v n
       sym (node-again p lp bp) ∙ (λ i. nodeB (k i) (parents i) (v i) (o i) (c i) (same .depth i)) ∙ node-again q lq bq
 
 -- ---- two sound buffers that are seen alike
--- an element of equal parts
-in-part : (s t : List ℕ) (a n j i : ℕ) → j < n → i ≡ a + j → part s a n ≡ part t a n → getD s i 0 ≡ getD t i 0
-in-part s t a n j i l e q =
-    rw e (sym (part-at s a n j l) ∙ ap (λ (p : List ℕ). getD p j 0) q ∙ part-at t a n j l)
-
 -- as many environments are made
 made-once : (s t : List ℕ) → Sound s → Sound t → ((a : ℕ) → view s .tree .what a ≡ view t .tree .what a) → made s ≡ made t
 unfolding IsMade
@@ -239,28 +135,24 @@ module _ (s t : List ℕ) (ok : Sound s) (ok′ : Sound t) (bytes : Bytes s) (by
 
   -- the header
   heads : headOf s ≡ headOf t
-  unfolding headOf headN
-  heads =
-      sym (head-again (headOf s) (part-length s 0 header (omega (arith, ok .long))) (part-bytes s 0 header bytes))
-      ∙ (λ i. headB (v i) (r i) (makes i) (focuses i))
-      ∙ head-again (headOf t) (part-length t 0 header (omega (arith, ok′ .long))) (part-bytes t 0 header bytes′)
+  heads = sym (head-said s bytes (omega (arith, ok .long))) ∙ (λ i. headB (v i) (r i) (makes i) (focuses i)) ∙ head-said t bytes′ (omega (arith, ok′ .long))
 
   -- a cell
   same-cell : (x : ℕ) → x < vars s → cellOf s x ≡ cellOf t x
-  unfolding view viewF fieldsOf cellOf
+  unfolding view viewF fieldsOf
   same-cell x h =
       let h′ : x < vars t = omega arith in
       let l : length (cells s x) ≡ cellSize = of-buffer s (sound-fit s ok) .cell-long x in
       let l′ : length (cells t x) ≡ cellSize = of-buffer t (sound-fit t ok′) .cell-long x in
       let bare : bareC (cells s x) ≡ bareC (cells t x) =
       cell-once (bareC (cells s x)) (bareC (cells t x)) (bare-length (cells s x)) (bare-length (cells t x))
-      (bare-bytes (cells s x) (rw (cell-in s x h) (part-bytes s (cellAt x) cellSize bytes))) (bare-bytes (cells t x) (rw (cell-in t x h′) (part-bytes t (cellAt x) cellSize bytes′)))
+      (bare-bytes (cells s x) (cell-bytes s bytes x h)) (bare-bytes (cells t x) (cell-bytes t bytes′ x h′))
       (ok .fields .shape .cells x h) (ok′ .fields .shape .cells x h′) (ap (λ (w : store.Store). w .values .cell x) same) in
       sym (cell-in s x h) ∙ sym (cell-again (cells s x) l) ∙ ap cellB bare ∙ cell-again (cells t x) l′ ∙ cell-in t x h′
 
   -- a node
   same-node : (n : ℕ) → n < room s → nodeOf s n ≡ nodeOf t n
-  unfolding view viewF treeF fieldsOf nodeOf
+  unfolding view viewF treeF fieldsOf
   same-node n h = sym (node-in s n h) ∙ go (place (made s) n) ∙ node-in t n h′
     where
       h′ : n < room t
@@ -272,7 +164,7 @@ module _ (s t : List ℕ) (ok : Sound s) (ok′ : Sound t) (bytes : Bytes s) (by
       go (is-inner l k) =
           node-once (vars s) n (depthAbove (fieldsOf s) n) (depthAbove (fieldsOf t) n) (nodes s n) (nodes t n) (shape-inners (fieldsOf s) (ok .fields .shape) n l k) (rw v (shape-inners (fieldsOf t) (ok′ .fields .shape) n l (omega (arith, makes))))
           (of-buffer s (sound-fit s ok) .node-long n) (of-buffer t (sound-fit t ok′) .node-long n)
-          (rw (node-in s n h) (part-bytes s (nodeAt (vars s) n) nodeSize bytes)) (rw (node-in t n h′) (part-bytes t (nodeAt (vars t) n) nodeSize bytes′))
+          (node-bytes s bytes n h) (node-bytes t bytes′ n h′)
           (record {
             what = ap (λ (w : store.Store). w .tree .what n) same;
             up = ap (λ (w : store.Store). w .tree .up n) same;
@@ -281,27 +173,12 @@ module _ (s t : List ℕ) (ok : Sound s) (ok′ : Sound t) (bytes : Bytes s) (by
             stored = ap (λ (w : store.Store). w .values .stored n) same;
           })
 
-  -- every byte up to the size
-  at-each : (i : ℕ) → i < sizeOf (vars s) (room s) → getD s i 0 ≡ getD t i 0
-  unfolding headOf cellOf nodeOf
-  at-each i h = go (decLt i header) (decLt i (nodeAt (vars s) 0))
-    where
-      go : Dec (i < header) → Dec (i < nodeAt (vars s) 0) → getD s i 0 ≡ getD t i 0
-      go (yes a) b = in-part s t 0 header i i a (omega arith) heads
-      go (no a) (yes b) =
-          let x = (i - header) / cellSize in
-          in-part s t (cellAt x) cellSize ((i - header) % cellSize) i (omega arith) (omega arith) (same-cell x (omega arith))
-      go (no a) (no b) =
-          let n = (i - nodeAt (vars s) 0) / nodeSize in
-          in-part s t (nodeAt (vars s) n) nodeSize ((i - nodeAt (vars s) 0) % nodeSize) i (omega arith) (omega arith)
-          (same-node n (omega arith) ∙ ap (λ (w : ℕ). part t (nodeAt w n) nodeSize) (sym v))
-
   pub same-seen : take (sizeOf (vars s) (room s)) s ≡ take (sizeOf (vars s) (room s)) t
   same-seen =
       let z = sizeOf (vars s) (room s) in
       let l : length (take z s) ≡ z = length-take-le z s (ok .long) in
       let l′ : length (take z t) ≡ z = length-take-le z t (omega (arith, ok′ .long)) in
-      ext-getD 0 (take z s) (take z t) (l ∙ sym l′) (λ i h. getD-take z s i 0 (omega arith) ∙ at-each i (omega arith) ∙ sym (getD-take z t i 0 (omega arith)))
+      ext-getD 0 (take z s) (take z t) (l ∙ sym l′) (λ i h. getD-take z s i 0 (omega arith) ∙ at-each s t v heads same-cell same-node i (omega arith) ∙ sym (getD-take z t i 0 (omega arith)))
 
 -- the bytes up to the size and those past it are all
 pub same-whole : (s t : List ℕ) → vars s ≡ vars t → room s ≡ room t → take (sizeOf (vars s) (room s)) s ≡ take (sizeOf (vars s) (room s)) t → past s ≡ past t → s ≡ t
@@ -444,42 +321,26 @@ module _ (s u : List ℕ) (agree : AgreeTo s u) where
       sym (part-take s (sizeOf (vars s) (room s)) a n h) ∙ ap (λ (l : List ℕ). part l a n) agree
       ∙ part-take u (sizeOf (vars s) (room s)) a n h
 
-  agree-head : headOf s ≡ headOf u
-  unfolding headOf
-  agree-head = same-part 0 header (omega arith)
-
-  agree-number : (k : ℕ) → headN s k ≡ headN u k
-  unfolding headN
-  agree-number k = ap (λ (h : List ℕ). u16 h (2 * k)) agree-head
-
   pub agree-vars : vars s ≡ vars u
-  agree-vars = agree-number 0
+  agree-vars = alike-number s u same-part 0
 
   pub agree-room : room s ≡ room u
-  agree-room = agree-number 1
-
-  same-cell-of : (x : ℕ) → x < vars s → cellOf s x ≡ cellOf u x
-  unfolding cellOf
-  same-cell-of x h = same-part (cellAt x) cellSize (omega arith)
-
-  same-node-of : (n : ℕ) → n < room s → nodeOf s n ≡ nodeOf u n
-  unfolding nodeOf
-  same-node-of n h = same-part (nodeAt (vars s) n) nodeSize (omega arith) ∙ ap (λ (v : ℕ). part u (nodeAt v n) nodeSize) agree-vars
+  agree-room = alike-number s u same-part 1
 
   pub agree-fields : fieldsOf s ≡ fieldsOf u
   unfolding fieldsOf
   agree-fields = λ i. record {
-    head = fun-ext agree-number i;
+    head = fun-ext (alike-number s u same-part) i;
     cell = fun-ext (λ x. cell x (decLt x (vars s))) i;
     node = fun-ext (λ n. node n (decLt n (room s))) i;
   }
     where
       cell : (x : ℕ) → Dec (x < vars s) → cells s x ≡ cells u x
-      cell x (yes h) = cell-in s x h ∙ same-cell-of x h ∙ sym (cell-in u x (omega (arith, agree-vars)))
+      cell x (yes h) = cell-in s x h ∙ alike-cell s u same-part x h ∙ sym (cell-in u x (omega (arith, agree-vars)))
       cell x (no h) = cell-past s x (omega arith) ∙ sym (cell-past u x (omega (arith, agree-vars)))
 
       node : (n : ℕ) → Dec (n < room s) → nodes s n ≡ nodes u n
-      node n (yes h) = node-in s n h ∙ same-node-of n h ∙ sym (node-in u n (omega (arith, agree-room)))
+      node n (yes h) = node-in s n h ∙ alike-node s u same-part n h ∙ sym (node-in u n (omega (arith, agree-room)))
       node n (no h) = node-past s n (omega arith) ∙ sym (node-past u n (omega (arith, agree-room)))
 
   pub agree-view : view s ≡ view u

@@ -1,13 +1,11 @@
 -- What the code below the walk writes, in bytes: one move, a new node, a set, an opened store.
 -- Nothing here is a promise: the calls' promises speak of the view. Assumes nothing: these are definitions.
-use mathlib.Core.Bool.{Bool, true, false, cond}
-use Prim.Native.Nat.{ℕ, zero, suc, _+_, _-_, _*_, _/_, _%_, _≤_, _<_}
-use mathlib.Core.List.{List, [], _∷_, _++_}
-use lib.ListN.{length, drop, replicate}
+use Prim.Native.Nat.{ℕ, zero, suc, _+_, _-_, _*_, _<_}
+use mathlib.Core.List.{List, [], _++_}
+use lib.ListN.{replicate}
 use lib.IntN.{ℤ}
-use Rattle.rules.specs.Moves.{Event}
-use Rattle.layout.specs.Limits.{nodeSize, eventSize}
-use Rattle.layout.specs.Records.{vars, room, made, focus, withFocus, withMade, blankCell, valueC, cellOf, withCell, bareC, putC, cellB, topC, nodeOf, withNode, kindN, parentN, varN, storedN, depthN, turnN, swapN, nodeB, topNode}
+use Rattle.layout.specs.Limits.{nodeSize}
+use Rattle.layout.specs.Records.{headB, vars, room, made, focus, withFocus, withMade, blankCell, valueC, cellOf, withCell, bareC, putC, cellB, topC, nodeOf, withNode, kindN, parentN, varN, storedN, depthN, turnN, swapN, nodeB, topNode}
 use Rattle.layout.specs.Kinds.{byKind, leftKind, enteredKind, IsBinding, IsNode}
 use Rattle.layout.specs.Fields.{nodes, Fit}
 
@@ -59,13 +57,14 @@ unfoldable pub windB : List ℕ → ℕ → ℕ → List ℕ
 windB s p q = growB s (nodeB 5 (focus s) p q blankCell (depthUnder s))
 
 -- ---- open: the header, a new cell for each top cell as it was handed in, the top, blanks
-unfoldable pub headB : ℕ → ℕ → ℕ → ℕ → List ℕ
-headB v n m f = v % 256 ∷ v / 256 ∷ n % 256 ∷ n / 256 ∷ m % 256 ∷ m / 256 ∷ f % 256 ∷ f / 256 ∷ []
-
 -- the first v cells
 abbrev pub cellsB : ℕ → List ℕ → List ℕ
 cellsB zero tops = []
 cellsB (suc v) tops = cellsB v tops ++ cellB (topC tops v)
+
+-- k bytes of nodes: the top, then blanks
+unfoldable pub nodesB : ℕ → List ℕ
+nodesB k = topNode ++ replicate (k - nodeSize) 0
 
 unfoldable pub openB : ℕ → ℕ → List ℕ → List ℕ
 openB v n tops = headB v n 1 0 ++ (cellsB v tops ++ (topNode ++ replicate (nodeSize * (n - 1)) 0))

@@ -1,19 +1,19 @@
 // Whether a store is sound: document 01's sentence, clause by clause, each answered both ways. Linear in V + N.
 ghost use mathlib.Core.Path.{_≡_};
-ghost use mathlib.Core.Bool.{Bool, true, false};
-ghost use mathlib.Core.List.{List};
+ghost use mathlib.Core.Bool.{true, false};
 ghost use Prim.Native.Nat.{ℕ, _+_, _*_, _<_, _≤_};
-ghost use lib.ListN.{length, getD, replicate};
+ghost use lib.ListN.{length, replicate};
 ghost use Rattle.rules.specs.Modes.{count};
 ghost use Rattle.layout.specs.Limits.{maxVars, bareSize, nodeSize};
-ghost use Rattle.layout.specs.Records.{vars, made, ProperCell, bareC, topC, kindN, parentN, varN, postN, storedN, blankCell, topNode};
+ghost use Rattle.layout.specs.Records.{made, ProperCell, topC, parentN, varN, postN, storedN, blankCell, topNode};
 ghost use Rattle.layout.specs.CheckLaws.{modeF, Counted, Rises, AllRise};
-ghost use Rattle.layout.specs.Fields.{Fit, fieldsOf, nodes};
-ghost use Rattle.layout.specs.Sound.{Says, NodeOk, depthAbove, HeadOk, Headed, CellsOk, Shape, Ins, Sound};
+ghost use Rattle.layout.specs.Fields.{fieldsOf, nodes};
+ghost use Rattle.layout.specs.Sound.{Says, NodeOk, depthAbove, Headed, CellsOk, Shape, Ins, Sound};
 ghost use Rattle.layout.specs.SoundLaws.{InnersOk, BlanksOk};
 use crate::kinds::is_in;
 use crate::kinds::is_out;
 use crate::records::bare_of;
+use crate::records::behind_kind;
 use crate::records::cell;
 use crate::records::depth_in;
 use crate::records::depth_of;
@@ -27,6 +27,7 @@ use crate::records::parent_in;
 use crate::records::parent_of;
 use crate::records::post_in;
 use crate::records::room_of;
+use crate::records::size_of;
 use crate::records::stored_of;
 use crate::records::top_cell;
 use crate::records::var_in;
@@ -49,7 +50,7 @@ fn head_ok(s: &[u8]) -> bool
     if n < 1 || Store::NODES < n {
         return false;
     }
-    if s.len() < Store::HEADER + Store::CELL * v + Store::NODE * n {
+    if s.len() < size_of(v, n) {
         return false;
     }
     if n < m {
@@ -137,7 +138,7 @@ fn top_ok(p: &[u8]) -> bool
     if kind_in(p) != 1 {
         return false;
     }
-    zeros(&p[1..])
+    zeros(behind_kind(p))
 }
 
 // A binding's variable, the zero in place of the postlude, and its stored cell.

@@ -1,6 +1,6 @@
 // The store: bindings and winds on a tree in lent bytes, and the walk of its focus. Ten calls, and nothing else is public.
 ghost use mathlib.Core.Path.{_≡_};
-ghost use mathlib.Core.Bool.{Bool, true, false};
+ghost use mathlib.Core.Bool.{false};
 ghost use mathlib.Core.List.{[], _∷_};
 ghost use Prim.Native.Nat.{_<_, _≤_};
 ghost use lib.ListN.{length};
@@ -176,7 +176,7 @@ fn wind_at(s: &mut [u8], t: &mut [u8], p: usize, q: usize) -> Answer
     ensures { λ r. ⌜ (now (s .exit) ≡ windB (now (s .entry)) p q) × (now (t .exit) ≡ told (entering (now (s .entry)) p) (now (t .entry))) ⌝ }
 {
     let n = made::next_of(s);
-    trace::note(t, 0, 1, p, records::focus_of(s));
+    records::note(t, 0, 1, p, records::focus_of(s));
     made::grow(s, n, 5, p, q, [0; Store::BARE]);
     Answer::Made(New {
         node: n as u16,
@@ -262,7 +262,7 @@ fn openable(v: usize, n: usize, tops: &[u8], s: &[u8]) -> bool
     if tops.len() != Store::BARE * v {
         return false;
     }
-    if s.len() < Store::HEADER + Store::CELL * v + Store::NODE * n {
+    if s.len() < records::size_of(v, n) {
         return false;
     }
     check::tops_ok(tops, v)

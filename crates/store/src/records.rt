@@ -1,12 +1,13 @@
-// The header, the cells and the nodes as parts of the lent store, read and written: the fields' places. check.rt and opening.rt know
-// some of them too, where they look at or write a record whole; trace.rt knows an event's.
+// The header, the cells and the nodes as parts of the lent store, and the events as parts of the lent trace, read and written. No other
+// file knows a place in these bytes.
 ghost use mathlib.Core.Path.{_≡_};
-ghost use mathlib.Core.List.{List, [], _∷_};
-ghost use Prim.Native.Nat.{ℕ, _+_, _*_, _<_, _≤_};
-ghost use lib.ListN.{length, getD};
-ghost use Rattle.layout.specs.Limits.{header, cellSize, bareSize, nodeSize, cellAt, nodeAt};
+ghost use Prim.Native.Nat.{_+_, _*_, _<_, _≤_};
+ghost use lib.ListN.{length, drop};
+ghost use Rattle.layout.specs.Limits.{header, cellSize, bareSize, nodeSize, eventSize, cellAt, nodeAt, sizeOf};
+ghost use Rattle.layout.specs.Bytes.{splice};
 ghost use Rattle.layout.specs.Records.{headN, withHead, vars, room, made, focus, withFocus, withMade, cellOf, withCell, bareC, putC, cellB, topC, nodeOf, withNode, kindN, parentN, varN, postN, storedN, depthN, turnN, swapN, nodeB};
 ghost use Rattle.layout.specs.Fields.{Fit};
+ghost use Rattle.layout.specs.Events.{eventD};
 use crate::number::put16_at;
 use crate::number::u16_at;
 use layout::Store;
@@ -54,6 +55,20 @@ pub(crate) fn focus_of(s: &[u8]) -> usize
     ensures { λ r. ⌜ (r ≡ focus (now (s .entry))) × (r < 65536) ⌝ }
 {
     head_of(s, 3)
+}
+
+pub(crate) fn set_vars(s: &mut [u8], v: usize)
+    requires { ⌜ (header ≤ length (now s)) × (v < 65536) ⌝ }
+    ensures { λ _. ⌜ now (s .exit) ≡ withHead (now (s .entry)) 0 v ⌝ }
+{
+    set_head(s, 0, v);
+}
+
+pub(crate) fn set_room(s: &mut [u8], n: usize)
+    requires { ⌜ (header ≤ length (now s)) × (n < 65536) ⌝ }
+    ensures { λ _. ⌜ now (s .exit) ≡ withHead (now (s .entry)) 1 n ⌝ }
+{
+    set_head(s, 1, n);
 }
 
 pub(crate) fn set_made(s: &mut [u8], m: usize)
@@ -148,11 +163,19 @@ pub(crate) fn top_cell(tops: &[u8], x: usize) -> [u8; Store::BARE]
 
 // ---- a node
 
+// The size of a store of v variables and n environments; in a larger one the node n begins there.
+pub(crate) fn size_of(v: usize, n: usize) -> usize
+    requires { ⌜ (v < 65536) × (n < 65536) ⌝ }
+    ensures { λ r. ⌜ r ≡ sizeOf v n ⌝ }
+{
+    cell_at(v) + Store::NODE * n
+}
+
 pub(crate) fn node_at(s: &[u8], n: usize) -> usize
     requires { ⌜ (header ≤ length (now s)) × (n < 65536) ⌝ }
     ensures { λ r. ⌜ r ≡ nodeAt (vars (now (s .entry))) n ⌝ }
 {
-    Store::HEADER + Store::CELL * vars_of(s) + Store::NODE * n
+    size_of(vars_of(s), n)
 }
 
 // The node n, as a part of the store.
@@ -202,6 +225,14 @@ pub(crate) fn depth_in(p: &[u8]) -> usize
     u16_at(p, 12)
 }
 
+// All but the kind.
+pub(crate) fn behind_kind(p: &[u8]) -> &[u8]
+    requires { ⌜ length (now p) ≡ nodeSize ⌝ }
+    ensures { λ r. ⌜ now r ≡ drop 1 (now (p .entry)) ⌝ }
+{
+    &p[1..]
+}
+
 // The same of the node n.
 
 pub(crate) fn kind_of(s: &[u8], n: usize) -> u8
@@ -247,8 +278,9 @@ pub(crate) fn stored_of(p: &[u8]) -> [u8; Store::BARE]
     [p[1], p[8], p[9], p[10], p[11]]
 }
 
-fn turn_node(p: &mut [u8], k: u8)
-    requires { ⌜ length (now p) ≡ nodeSize ⌝ }
+// The node that p begins with becomes of kind k.
+pub(crate) fn turn_node(p: &mut [u8], k: u8)
+    requires { ⌜ nodeSize ≤ length (now p) ⌝ }
     ensures { λ _. ⌜ now (p .exit) ≡ turnN (now (p .entry)) k ⌝ }
 {
     p[0] = k;
@@ -315,4 +347,25 @@ pub(crate) fn set_node(
     let at = node_at(s, n);
     let e = at + Store::NODE;
     put_node(&mut s[at..e], k, up, a, b, c, d);
+}
+
+// ---- an event of the trace
+
+fn put_event(p: &mut [u8], d: u8, thunk: usize, place: usize)
+    requires { ⌜ (length (now p) ≡ eventSize) × ((thunk < 65536) × (place < 65536)) ⌝ }
+    ensures { λ _. ⌜ now (p .exit) ≡ eventD d thunk place ⌝ }
+{
+    p[0] = d;
+    put16_at(p, 1, thunk);
+    put16_at(p, 3, place);
+}
+
+// The event number e of the trace: 0 leaving or 1 entering, the thunk, the place.
+pub(crate) fn note(t: &mut [u8], e: usize, d: u8, thunk: usize, place: usize)
+    requires { ⌜ (eventSize * (e + 1) ≤ length (now t)) × ((thunk < 65536) × (place < 65536)) ⌝ }
+    ensures { λ _. ⌜ now (t .exit) ≡ splice (now (t .entry)) (eventSize * e) eventSize (eventD d thunk place) ⌝ }
+{
+    let a = Store::EVENT * e;
+    let b = a + Store::EVENT;
+    put_event(&mut t[a..b], d, thunk, place);
 }

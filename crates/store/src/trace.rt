@@ -1,26 +1,24 @@
 // A switch's moves and events, found out before anything changes, and its events written to the trace.
 ghost use mathlib.Core.Path.{_≡_};
-ghost use Prim.Native.Nat.{ℕ, _+_, _*_, _<_, _≤_};
+ghost use Prim.Native.Nat.{_+_, _*_, _<_, _≤_};
 ghost use lib.ListN.{length};
 ghost use Rattle.rules.specs.Moves.{isWind};
 ghost use Rattle.layout.specs.Limits.{eventSize};
-ghost use Rattle.layout.specs.Bytes.{splice};
 ghost use Rattle.layout.specs.Records.{room, nodeOf};
 ghost use Rattle.layout.specs.Fields.{Fit};
 ghost use Rattle.layout.specs.View.{whatN};
 ghost use Rattle.layout.specs.Sound.{Sound};
-ghost use Rattle.layout.specs.Events.{eventD, told, eventsTo};
+ghost use Rattle.layout.specs.Events.{told, eventsTo};
 ghost use Rattle.layout.specs.Made.{IsMade};
 ghost use Rattle.layout.specs.Routes.{movesTo, leftEvents, enteredEvents, meeting, OnWay, Climbing, toldAt, Entering};
 use crate::kinds::is_out;
 use crate::kinds::is_wind;
-use crate::number::put16_at;
 use crate::records::focus_of;
 use crate::records::kind_of;
+use crate::records::note;
 use crate::records::parent_of;
 use crate::records::post_of;
 use crate::records::var_of;
-use layout::Store;
 
 // ---- before the walk: how many moves and events
 
@@ -89,25 +87,6 @@ pub(crate) fn survey(s: &[u8], a: usize) -> Climb
 }
 
 // ---- the events
-
-fn put_event(p: &mut [u8], d: u8, thunk: usize, place: usize)
-    requires { ⌜ (length (now p) ≡ eventSize) × ((thunk < 65536) × (place < 65536)) ⌝ }
-    ensures { λ _. ⌜ now (p .exit) ≡ eventD d thunk place ⌝ }
-{
-    p[0] = d;
-    put16_at(p, 1, thunk);
-    put16_at(p, 3, place);
-}
-
-// The event number e of the trace: 0 leaving or 1 entering, the thunk, the place.
-pub(crate) fn note(t: &mut [u8], e: usize, d: u8, thunk: usize, place: usize)
-    requires { ⌜ (eventSize * (e + 1) ≤ length (now t)) × ((thunk < 65536) × (place < 65536)) ⌝ }
-    ensures { λ _. ⌜ now (t .exit) ≡ splice (now (t .entry)) (eventSize * e) eventSize (eventD d thunk place) ⌝ }
-{
-    let a = Store::EVENT * e;
-    let b = a + Store::EVENT;
-    put_event(&mut t[a..b], d, thunk, place);
-}
 
 // Leaving n, told as the event e if n is a wind: the number of the next. The place is the wind's parent.
 fn tell_left(s: &[u8], t: &mut [u8], n: usize, e: usize) -> usize

@@ -22,27 +22,18 @@ mul-if5 c = record { fits = omega (arith, ltb-false) }
 returns-3 : tie.Need-returns-3
 returns-3 c = search needs
 
-mul-if6 : tie.Need-mul-if6
-mul-if6 c = omega arith
-
-add-if6 : tie.Need-add-if6
-add-if6 c = omega arith
-
-mul-if6-2 : tie.Need-mul-if6-2
-mul-if6-2 c = record { fits = omega (arith, ltb-false) }
-
-add-if6-2 : tie.Need-add-if6-2
-add-if6-2 c = record { fits = omega (arith, ltb-false) }
+size-of-requires : tie.Need-size-of-requires
+size-of-requires c κs = (omega (arith, ltb-false), omega (arith, ltb-false))
 
 returns-4 : tie.Need-returns-4
 returns-4 c = search needs
 
 tops-ok-requires : tie.Need-tops-ok-requires
-tops-ok-requires c κs = search needs
+tops-ok-requires c κs = (omega (arith, ltb-false), omega arith)
 
 returns-5 : tie.Need-returns-5
 returns-5 c =
-    let st = c .before .before .before .before .before .before .before .before .before in
+    let st = c .before .before .before .before .before .before .before .before .before .before in
     let v = st .args .v in
     let tops = st .args .tops .now in
     let all : ((x : ℕ) → x < v → ProperCell (topC tops x)) → Openable v (st .args .n) tops (st .args .s .now) = λ h. record {
@@ -67,10 +58,7 @@ openable-spec =
     returns-2
     mul-if5
     returns-3
-    mul-if6
-    add-if6
-    mul-if6-2
-    add-if6-2
+    size-of-requires
     returns-4
     tops-ok-requires
     returns-5)

@@ -8,7 +8,9 @@ use Rattle.layout.specs.Records.{vars, room, made}
 use Rattle.layout.specs.Sound.{Says}
 use Rattle.layout.specs.Fields.{fieldsOf}
 use Rattle.layout.specs.SoundLaws.{headed-fit}
-use Rattle.layout.specs.CheckLaws.{Zeros, says-map, lent-zeros, zeros-blanks, blanks-zeros}
+use Rattle.layout.specs.Bytes.{Zeros}
+use Rattle.layout.specs.PlaceLaws.{zeros-blanks, blanks-zeros}
+use Rattle.layout.specs.CheckLaws.{says-map, lent-zeros}
 use Rattle.store.proofs.check.blanks_ok.Statement.{statement}
 use Rattle.store.proofs.check.blanks_ok.Tie as tie
 
@@ -50,7 +52,7 @@ returns c =
     let ea : a ≡ nodeAt (vars s) (made s) = omega arith in
     let ee : e ≡ nodeAt (vars s) (room s) = omega arith in
     let from = subst (λ (x : ℕ). Says r (Zeros s x e)) ea (lent-zeros s a e (omega arith) (omega arith) r (c .zeros .ensures)) in
-    says-map r (zeros-blanks s fit) (blanks-zeros s fit) (subst (λ (x : ℕ). Says r (Zeros s (nodeAt (vars s) (made s)) x)) ee from)
+    says-map r (zeros-blanks s (made s) fit) (blanks-zeros s (made s) fit) (subst (λ (x : ℕ). Says r (Zeros s (nodeAt (vars s) (made s)) x)) ee from)
 
 pub blanks-ok-spec : {M : Type 1} → statement M
 blanks-ok-spec =

@@ -4,10 +4,10 @@ use Prim.Native.Nat.{_<_}
 use native.Mathlib.Omega.{arith}
 use lib.Dec.{ltb}
 use borrow.Author.Tests.{ltb-true, ltb-false}
-use borrow.Author.Needs.{needs}
 use Rattle.layout.specs.Fields.{fieldsOf}
 use Rattle.layout.specs.Sound.{Headed}
 use Rattle.layout.specs.CheckLaws.{says-map, says-lt}
+use borrow.Author.Needs.{needs}
 use Rattle.store.proofs.check.head_ok.Statement.{statement}
 use Rattle.store.proofs.check.head_ok.Tie as tie
 
@@ -31,17 +31,8 @@ returns-3 : tie.Need-returns-3
 unfolding fieldsOf
 returns-3 c = ⊎-elim (λ w h. omega (arith, h .head .room-low)) (λ w h. omega (arith, ltb-true, h .head .room-high)) (c .if4 .came)
 
-mul-if6 : tie.Need-mul-if6
-mul-if6 c = omega arith
-
-add-if6 : tie.Need-add-if6
-add-if6 c = omega arith
-
-mul-if6-2 : tie.Need-mul-if6-2
-mul-if6-2 c = omega arith
-
-add-if6-2 : tie.Need-add-if6-2
-add-if6-2 c = omega arith
+size-of-requires : tie.Need-size-of-requires
+size-of-requires c κs = search needs
 
 returns-4 : tie.Need-returns-4
 returns-4 c = search needs
@@ -56,7 +47,7 @@ focus-of-requires c κs = search needs
 returns-6 : tie.Need-returns-6
 unfolding fieldsOf
 returns-6 c =
-    let named = c .before .before .before .before .before .before .before in
+    let named = c .before .before .before .before .before .before .before .before in
     let f = c .focus-of .result in
     let m = named .made-of .result in
     let s = named .before .before .before .before .before .args .s .now in
@@ -85,10 +76,7 @@ head-ok-spec =
     made-of-requires
     returns-2
     returns-3
-    mul-if6
-    add-if6
-    mul-if6-2
-    add-if6-2
+    size-of-requires
     returns-4
     returns-5
     focus-of-requires

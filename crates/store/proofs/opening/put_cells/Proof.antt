@@ -1,19 +1,17 @@
 -- After x turns the first x cells are new and the rest is as it was.
 use mathlib.Core.Path.{_≡_, refl, ap, _∙_}
-use Prim.Native.Nat.{_*_, _-_, _≤_}
+use Prim.Native.Nat.{_-_, _≤_}
 use native.Mathlib.Omega.{arith}
 use lib.ListN.{length}
-use Rattle.layout.specs.Limits.{header, cellSize}
-use Rattle.layout.specs.Bytes.{splice}
-use Rattle.layout.specs.Records.{withCell, cellB}
+use Rattle.layout.specs.Records.{withCell, withCells, cellB}
 use Rattle.layout.specs.Writes.{cellsB}
-use Rattle.layout.specs.OpenLaws.{cells-none, cells-more}
+use Rattle.layout.specs.PlaceLaws.{cells-none, cells-more}
 use borrow.Author.Needs.{needs}
 use Rattle.store.proofs.opening.put_cells.Statement.{statement}
 use Rattle.store.proofs.opening.put_cells.Tie as tie
 
 abbrev Inv-loop : tie.InvT-loop
-Inv-loop s₀ v tops x₀ s x = (length s ≡ length s₀) × ((x ≤ v) × (s ≡ splice s₀ header (cellSize * x) (cellsB x tops)))
+Inv-loop s₀ v tops x₀ s x = (length s ≡ length s₀) × ((x ≤ v) × (s ≡ withCells s₀ x (cellsB x tops)))
 
 abbrev μ-loop : tie.MeasureT-loop
 μ-loop s₀ v tops x₀ s x = v - x
@@ -54,7 +52,7 @@ returns : tie.Need-returns Inv-loop μ-loop
 returns c =
     let args = c .before .before .before .before .args in
     let all : c .before .loop .x ≡ args .v = omega arith in
-    c .before .loop .inv .1 .1 ∙ ap (λ x. splice (args .s .now) header (cellSize * x) (cellsB x (args .tops .now))) all
+    c .before .loop .inv .1 .1 ∙ ap (λ x. withCells (args .s .now) x (cellsB x (args .tops .now))) all
 
 pub put-cells-spec : {M : Type 1} → statement M
 put-cells-spec =

@@ -1,12 +1,11 @@
 use mathlib.Core.Path.{refl}
-use native.Mathlib.Omega.{arith}
-use borrow.Author.Needs.{needs}
 use Rattle.layout.specs.Records.{turnN}
+use borrow.Author.Needs.{needs}
 use Rattle.store.proofs.records.turn_node.Statement.{statement}
 use Rattle.store.proofs.records.turn_node.Tie as tie
 
 slice-write-p : tie.Need-slice-write-p
-slice-write-p c = omega arith
+slice-write-p c = search needs
 
 same-length : tie.Need-same-length
 same-length c = search needs

@@ -4,8 +4,8 @@ use native.Mathlib.Omega.{arith}
 use borrow.Author.Needs.{needs}
 use Rattle.layout.specs.Bytes.{lent-at}
 use Rattle.layout.specs.Events.{eventD}
-use Rattle.store.proofs.trace.note.Statement.{statement}
-use Rattle.store.proofs.trace.note.Tie as tie
+use Rattle.store.proofs.records.note.Statement.{statement}
+use Rattle.store.proofs.records.note.Tie as tie
 
 mul-a : tie.Need-mul-a
 mul-a c = omega arith

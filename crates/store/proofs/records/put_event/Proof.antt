@@ -6,8 +6,8 @@ use native.Mathlib.Omega.{arith}
 use lib.ListN.{length-set}
 use Rattle.layout.specs.Bytes.{put16}
 use Rattle.layout.specs.EventLaws.{event-put}
-use Rattle.store.proofs.trace.put_event.Statement.{statement}
-use Rattle.store.proofs.trace.put_event.Tie as tie
+use Rattle.store.proofs.records.put_event.Statement.{statement}
+use Rattle.store.proofs.records.put_event.Tie as tie
 
 slice-write-p : tie.Need-slice-write-p
 slice-write-p c = omega arith
