@@ -2,29 +2,29 @@
 -- No place of the layout stands here. Assumes nothing.
 use mathlib.Core.Path.{_≡_, refl, sym, ap, subst, _∙_, fun-ext}
 use mathlib.Core.Logic.{_≢_, _⊎_, inl, inr}
-use mathlib.Core.Bool.{Bool, true, false, cond}
-use mathlib.Core.Option.{Option, none, some}
-use Prim.Native.Nat.{ℕ, zero, suc, _+_, _-_, _≤_, _<_}
+use mathlib.Core.Bool.{true, false}
+use mathlib.Core.Option.{none, some}
+use Prim.Native.Nat.{ℕ, zero, _-_, _≤_, _<_}
 use native.Mathlib.Omega.{arith}
-use native.Mathlib.Decide.{ℕ-discrete, decLe}
+use native.Mathlib.Decide.{ℕ-discrete}
 use mathlib.Core.List.{List}
 use lib.ListN.{length}
 use Rattle.rules.specs.Basic.{upd, upd-same, upd-other, upd-id, clash, on, on-head, some≢none}
-use Rattle.rules.specs.Tree.{What, blank, top, binding, wind, Tree, path, path-up}
+use Rattle.rules.specs.Tree.{blank, binding, wind, path, path-up}
 use Rattle.rules.specs.Values.{Cell, Values, exchange}
 use Rattle.rules.specs.Store as store
 use Rattle.rules.specs.Store.{leave-sound, enter-sound}
-use Rattle.layout.specs.Limits.{cellSize, bareSize, nodeSize}
-use Rattle.layout.specs.Records.{vars, room, made, focus, withFocus, blankCell, ProperCell, cellOf, bareC, putC, nodeOf, withNode, withCell, kindN, parentN, varN, postN, storedN, depthN, turnN, swapN}
-use Rattle.layout.specs.Kinds.{byKind, isIn, leftKind, enteredKind, kind-binding, kind-wind, Node, binding-out, binding-in, wind-out, wind-in, node-kind, IsBinding, IsWind, not-both}
+use Rattle.layout.specs.Limits.{cellSize, nodeSize}
+use Rattle.layout.specs.Records.{vars, room, made, focus, withFocus, blankCell, ProperCell, cellOf, bareC, putC, nodeOf, withNode, withCell, kindN, parentN, varN, storedN, depthN, turnN, swapN}
+use Rattle.layout.specs.Kinds.{isIn, leftKind, enteredKind, kind-binding, kind-wind, Node, binding-out, binding-in, wind-out, wind-in, node-kind, IsBinding, IsWind, IsNode, not-both}
 use Rattle.layout.specs.Fields.{Fields, cells, nodes, fieldsOf, Fit, past, varsF, roomF, madeF, focusF}
 use Rattle.layout.specs.View.{asCell, whatN, upN, treeF, viewF, view}
-use Rattle.layout.specs.Sound.{NodeOk, depthAbove, HeadOk, Shape, SoundF, Sound}
+use Rattle.layout.specs.Sound.{NodeOk, depthAbove, HeadOk, Shape, Sound}
 use Rattle.layout.specs.Writes.{swapB, turnB, moveB, leaveB, enterB, Turns}
-use Rattle.layout.specs.Becomes.{Kept, Becomes}
+use Rattle.layout.specs.Becomes.{Becomes}
 use Rattle.layout.specs.Laws.{OfBuffer, of-buffer, node-in, cell-in, Wrote, nodeF, cellF, headF, fields-number, wrote-node, wrote-cell, wrote-head, wrote-fit, then}
 use Rattle.layout.specs.RecordLaws.{put-length, turn-length, swap-length, bare-length, stored-length, bare-put, SameNode, turn-kind, turn-same, turn-stored, swap-kind, swap-same, swap-stored}
-use Rattle.layout.specs.SoundLaws.{what-binding, what-wind, up-node, inner-up, up-inner, shape-proper, seen-sound, sound-fit, sound-view, shape-inners, parents-made, shape-blanks, shape-by-numbers}
+use Rattle.layout.specs.SoundLaws.{what-binding, what-wind, up-node, inner-up, sound-fit, sound-view, shape-inners, parents-made, shape-blanks, shape-by-numbers}
 
 -- ---- functions through a change at one place
 module _ {B : Type 0} (h : List ℕ → B) (g : ℕ → List ℕ) (n : ℕ) (p : List ℕ) where
@@ -41,6 +41,14 @@ module _ {B : Type 0} (h : List ℕ → B) (g : ℕ → List ℕ) (n : ℕ) (p :
 -- ---- two kinds of one node: both a binding's, or both a wind's
 abbrev pub Alike : ℕ → ℕ → Type 0
 Alike k l = (IsBinding k × IsBinding l) ⊎ (IsWind k × IsWind l)
+
+alike-node : {k l : ℕ} → Alike k l → IsNode k
+alike-node (inl (a, b)) = inl a
+alike-node (inr (a, b)) = inr a
+
+alike-binding : {k l : ℕ} → Alike k l → IsBinding k → IsBinding l
+alike-binding (inl (a, b)) z = b
+alike-binding (inr (a, b)) z = absurd (not-both z a)
 
 same-what : (p q : List ℕ) → SameNode p q → Alike (kindN p) (kindN q) → whatN p ≡ whatN q
 same-what p q s (inl (a, b)) = what-binding p a ∙ ap binding (s .var) ∙ sym (what-binding q b)
@@ -73,25 +81,30 @@ module _ (f : Fields) (buffer : OfBuffer f) (n k g : ℕ) where
   abbrev was : List ℕ
   was = f .node n
 
+  -- what is seen with a node p in place of n that is of kind k and else as it was, and with these cells and values
+  turned-seen : (p : List ℕ) (cs : ℕ → List ℕ) (v : Values) → SameNode p was → Alike (kindN p) (kindN was) → kindN p ≡ k
+      → _≡_ {A = ℕ → Cell} (λ y. asCell (bareC (cs y))) (v .cell) → _≡_ {A = ℕ → Cell} (λ m. asCell (storedN (upd (f .node) n p m))) (v .stored)
+      → viewF (headF 3 g (record { head = f .head; cell = cs; node = upd (f .node) n p })) ≡ record { tree = viewF f .tree; focus = g; values = v; mode = upd (viewF f .mode) n (isIn k) }
+  unfolding viewF treeF
+  turned-seen p cs v same alike kind cell stored = λ i. record {
+    tree = record { what = unseen whatN (f .node) n p (same-what p was same alike) i; up = unseen upN (f .node) n p (same-up p was same alike) i; rank = unseen depthN (f .node) n p (same .depth) i };
+    focus = g;
+    values = record { cell = cell i; stored = stored i };
+    mode = (through (λ (q : List ℕ). isIn (kindN q)) (f .node) n p ∙ ap (λ (l : ℕ). upd (λ (m : ℕ). isIn (kindN (f .node m))) n (isIn l)) kind) i;
+  }
+
   swapped-seen : IsBinding (kindN was) → IsBinding k → viewF (headF 3 g (swapF f n k)) ≡ turned f n k g
   unfolding viewF treeF
   swapped-seen a b =
       let long : length was ≡ nodeSize = buffer .node-long n in
       let p : List ℕ = swapN was k (bareC (f .cell x)) in
       let kind : kindN p ≡ k = swap-kind k (bareC (f .cell x)) was long in
-      let alike : Alike (kindN p) (kindN was) = inl (rw kind b, a) in
-      let same : SameNode p was = swap-same k (bareC (f .cell x)) was long in
       let stored : storedN p ≡ bareC (f .cell x) = swap-stored k was (bareC (f .cell x)) long (bare-length (f .cell x)) in
       let bare : bareC (putC (f .cell x) (storedN was)) ≡ storedN was = bare-put (f .cell x) (storedN was) (buffer .cell-long x) (stored-length was) in
-      rw (what-binding was a) λ i. record {
-        tree = record { what = unseen whatN (f .node) n p (same-what p was same alike) i; up = unseen upN (f .node) n p (same-up p was same alike) i; rank = unseen depthN (f .node) n p (same .depth) i };
-        focus = g;
-        values = record {
-          cell = (through (λ (q : List ℕ). asCell (bareC q)) (f .cell) x (putC (f .cell x) (storedN was)) ∙ ap (λ (c : List ℕ). upd (λ (y : ℕ). asCell (bareC (f .cell y))) x (asCell c)) bare) i;
-          stored = (through (λ (q : List ℕ). asCell (storedN q)) (f .node) n p ∙ ap (λ (c : List ℕ). upd (λ (m : ℕ). asCell (storedN (f .node m))) n (asCell c)) stored) i;
-        };
-        mode = (through (λ (q : List ℕ). isIn (kindN q)) (f .node) n p ∙ ap (λ (l : ℕ). upd (λ (m : ℕ). isIn (kindN (f .node m))) n (isIn l)) kind) i;
-      }
+      rw (what-binding was a)
+      (turned-seen p (upd (f .cell) x (putC (f .cell x) (storedN was))) (exchange (binding x) n (viewF f .values)) (swap-same k (bareC (f .cell x)) was long) (inl (rw kind b, a)) kind
+      (through (λ (q : List ℕ). asCell (bareC q)) (f .cell) x (putC (f .cell x) (storedN was)) ∙ ap (λ (c : List ℕ). upd (λ (y : ℕ). asCell (bareC (f .cell y))) x (asCell c)) bare)
+      (through (λ (q : List ℕ). asCell (storedN q)) (f .node) n p ∙ ap (λ (c : List ℕ). upd (λ (m : ℕ). asCell (storedN (f .node m))) n (asCell c)) stored))
 
   wound-seen : IsWind (kindN was) → IsWind k → viewF (headF 3 g (windF f n k)) ≡ turned f n k g
   unfolding viewF treeF
@@ -99,17 +112,9 @@ module _ (f : Fields) (buffer : OfBuffer f) (n k g : ℕ) where
       let long : length was ≡ nodeSize = buffer .node-long n in
       let p : List ℕ = turnN was k in
       let kind : kindN p ≡ k = turn-kind k was long in
-      let alike : Alike (kindN p) (kindN was) = inr (rw kind b, a) in
-      let same : SameNode p was = turn-same k was long in
-      rw (what-wind was a) λ i. record {
-        tree = record { what = unseen whatN (f .node) n p (same-what p was same alike) i; up = unseen upN (f .node) n p (same-up p was same alike) i; rank = unseen depthN (f .node) n p (same .depth) i };
-        focus = g;
-        values = record {
-          cell = λ y. asCell (bareC (f .cell y));
-          stored = unseen (λ (q : List ℕ). asCell (storedN q)) (f .node) n p (ap asCell (turn-stored k was long)) i;
-        };
-        mode = (through (λ (q : List ℕ). isIn (kindN q)) (f .node) n p ∙ ap (λ (l : ℕ). upd (λ (m : ℕ). isIn (kindN (f .node m))) n (isIn l)) kind) i;
-      }
+      rw (what-wind was a)
+      (turned-seen p (f .cell) (viewF f .values) (turn-same k was long) (inr (rw kind b, a)) kind refl
+      (unseen (λ (q : List ℕ). asCell (storedN q)) (f .node) n p (ap asCell (turn-stored k was long))))
 
   -- ---- the shape is kept
   module _ (ok : Shape f) (inner : 1 ≤ n) (below : n < madeF f) (goal : g < madeF f) where
@@ -143,48 +148,43 @@ module _ (f : Fields) (buffer : OfBuffer f) (n k g : ℕ) where
         go (yes e) = rw (e, upd-same) h
         go (no e) = rw (upd-other (f .cell) y z c e) (ok .cells z l)
 
+    -- with a node p in place of n that is else as it was, and with these cells
+    turned-shape : (p : List ℕ) (cs : ℕ → List ℕ) → SameNode p was → Alike (kindN p) (kindN was) → (IsBinding (kindN p) → ProperCell (storedN p)) → (IsWind (kindN p) → storedN p ≡ blankCell)
+        → ((y : ℕ) → y < varsF f → ProperCell (bareC (cs y))) → Shape (headF 3 g (record { head = f .head; cell = cs; node = upd (f .node) n p }))
+    turned-shape p cs same alike stored still proper =
+        let o = shape-inners f ok n inner below in
+        shape-by-numbers (headF 3 g (record { head = f .head; cell = cs; node = upd (f .node) n p })) (head-kept (ok .head)) proper
+        (upd-other (f .node) n 0 p (λ e. omega arith) ∙ ok .top)
+        (nodes-kept p (same .depth) record {
+          node = alike-node alike;
+          parent = omega (arith, same .parent, o .parent);
+          depth = same .depth ∙ rw (← (same .parent)) at (o .depth);
+          var = λ z. omega (arith, same .var, o .var (alike-binding alike z));
+          zero = λ z. same .post ∙ o .zero (alike-binding alike z);
+          stored = stored;
+          still = still;
+        })
+        (λ m l h. upd-other (f .node) n m p (λ e. omega arith) ∙ shape-blanks f ok m l h)
+
     swapped-shape : IsBinding (kindN was) → IsBinding k → Shape (headF 3 g (swapF f n k))
     swapped-shape a b =
         let long : length was ≡ nodeSize = buffer .node-long n in
         let p : List ℕ = swapN was k (bareC (f .cell x)) in
         let kind : kindN p ≡ k = swap-kind k (bareC (f .cell x)) was long in
-        let same : SameNode p was = swap-same k (bareC (f .cell x)) was long in
         let stored : storedN p ≡ bareC (f .cell x) = swap-stored k was (bareC (f .cell x)) long (bare-length (f .cell x)) in
         let bare : bareC (putC (f .cell x) (storedN was)) ≡ storedN was = bare-put (f .cell x) (storedN was) (buffer .cell-long x) (stored-length was) in
         let o = shape-inners f ok n inner below in
-        shape-by-numbers (headF 3 g (swapF f n k)) (head-kept (ok .head))
+        turned-shape p (upd (f .cell) x (putC (f .cell x) (storedN was))) (swap-same k (bareC (f .cell x)) was long) (inl (rw kind b, a))
+        (λ z. rw stored (ok .cells x (o .var a))) (λ z. absurd (not-both b (rw kind at z)))
         (cells-kept x (putC (f .cell x) (storedN was)) (rw bare (o .stored a)))
-        (upd-other (f .node) n 0 p (λ e. omega arith) ∙ ok .top)
-        (nodes-kept p (same .depth) record {
-          node = rw kind (inl b);
-          parent = omega (arith, same .parent, o .parent);
-          depth = same .depth ∙ rw (← (same .parent)) at (o .depth);
-          var = λ z. omega (arith, same .var, o .var a);
-          zero = λ z. same .post ∙ o .zero a;
-          stored = λ z. rw stored (ok .cells x (o .var a));
-          still = λ z. absurd (not-both b (rw kind at z));
-        })
-        (λ m l h. upd-other (f .node) n m p (λ e. omega arith) ∙ shape-blanks f ok m l h)
 
     wound-shape : IsWind (kindN was) → IsWind k → Shape (headF 3 g (windF f n k))
     wound-shape a b =
         let long : length was ≡ nodeSize = buffer .node-long n in
         let p : List ℕ = turnN was k in
         let kind : kindN p ≡ k = turn-kind k was long in
-        let same : SameNode p was = turn-same k was long in
-        let o = shape-inners f ok n inner below in
-        shape-by-numbers (headF 3 g (windF f n k)) (head-kept (ok .head)) (ok .cells)
-        (upd-other (f .node) n 0 p (λ e. omega arith) ∙ ok .top)
-        (nodes-kept p (same .depth) record {
-          node = rw kind (inr b);
-          parent = omega (arith, same .parent, o .parent);
-          depth = same .depth ∙ rw (← (same .parent)) at (o .depth);
-          var = λ z. absurd (not-both (rw kind at z) b);
-          zero = λ z. absurd (not-both (rw kind at z) b);
-          stored = λ z. absurd (not-both (rw kind at z) b);
-          still = λ z. turn-stored k was long ∙ o .still a;
-        })
-        (λ m l h. upd-other (f .node) n m p (λ e. omega arith) ∙ shape-blanks f ok m l h)
+        turned-shape p (f .cell) (turn-same k was long) (inr (rw kind b, a))
+        (λ z. absurd (not-both (rw kind at z) b)) (λ z. turn-stored k was long ∙ shape-inners f ok n inner below .still a) (ok .cells)
 
 -- ---- a turn, on bytes
 pub wrote-swap : (s : List ℕ) (n k : ℕ) → Fit s → n < room s → varN (nodes s n) < vars s → Wrote s (swapB s n k) (swapF (fieldsOf s) n k)

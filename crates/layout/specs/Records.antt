@@ -64,6 +64,13 @@ bitsC c = getD c 1 0 + 256 * getD c 2 0 + 65536 * getD c 3 0 + 16777216 * getD c
 unfoldable pub valueC : ℤ → List ℕ
 valueC v = 1 ∷ ofZ w32 v % 256 ∷ ofZ w32 v / 256 % 256 ∷ ofZ w32 v / 65536 % 256 ∷ ofZ w32 v / 16777216 % 256 ∷ []
 
+-- in a record, its state at a and its value from b on, and the record with another there
+abbrev pub cellIn : List ℕ → ℕ → ℕ → List ℕ
+cellIn p a b = getD p a 0 ∷ getD p b 0 ∷ getD p (b + 1) 0 ∷ getD p (b + 2) 0 ∷ getD p (b + 3) 0 ∷ []
+
+abbrev pub putIn : List ℕ → ℕ → ℕ → List ℕ → List ℕ
+putIn p a b c = set (set (set (set (set p a (getD c 0 0)) b (getD c 1 0)) (b + 1) (getD c 2 0)) (b + 2) (getD c 3 0)) (b + 3) (getD c 4 0)
+
 -- ---- a cell of the store
 unfoldable pub cellOf : List ℕ → ℕ → List ℕ
 cellOf s x = part s (cellAt x) cellSize
@@ -80,7 +87,7 @@ unfoldable pub bareC : List ℕ → List ℕ
 bareC p = getD p 0 0 ∷ getD p 1 0 ∷ getD p 2 0 ∷ getD p 3 0 ∷ getD p 4 0 ∷ []
 
 unfoldable pub putC : List ℕ → List ℕ → List ℕ
-putC p c = set (set (set (set (set p 0 (getD c 0 0)) 1 (getD c 1 0)) 2 (getD c 2 0)) 3 (getD c 3 0)) 4 (getD c 4 0)
+putC p c = putIn p 0 1 c
 
 -- a whole cell, new, with the bare cell c: today nothing else
 unfoldable pub cellB : List ℕ → List ℕ
@@ -128,7 +135,7 @@ unfoldable pub turnN : List ℕ → ℕ → List ℕ
 turnN p k = set p 0 k
 
 unfoldable pub swapN : List ℕ → ℕ → List ℕ → List ℕ
-swapN p k c = set (set (set (set (set (set p 0 k) 1 (getD c 0 0)) 8 (getD c 1 0)) 9 (getD c 2 0)) 10 (getD c 3 0)) 11 (getD c 4 0)
+swapN p k c = putIn (set p 0 k) 1 8 c
 
 -- a whole node: kind, parent, variable or prelude, zero or postlude, stored cell, depth
 unfoldable pub nodeB : ℕ → ℕ → ℕ → ℕ → List ℕ → ℕ → List ℕ

@@ -5,7 +5,7 @@ ghost use Prim.Native.Nat.{_+_, _*_, _<_, _≤_};
 ghost use lib.ListN.{length, drop};
 ghost use Rattle.layout.specs.Limits.{header, cellSize, bareSize, nodeSize, eventSize, cellAt, nodeAt, sizeOf};
 ghost use Rattle.layout.specs.Bytes.{splice};
-ghost use Rattle.layout.specs.Records.{headN, withHead, vars, room, made, focus, withFocus, withMade, cellOf, withCell, bareC, putC, cellB, topC, nodeOf, withNode, kindN, parentN, varN, postN, storedN, depthN, turnN, swapN, nodeB};
+ghost use Rattle.layout.specs.Records.{headN, withHead, vars, room, made, focus, withFocus, withMade, cellOf, withCell, cellIn, putIn, bareC, putC, cellB, topC, nodeOf, withNode, kindN, parentN, varN, postN, storedN, depthN, turnN, swapN, nodeB};
 ghost use Rattle.layout.specs.Fields.{Fit};
 ghost use Rattle.layout.specs.Events.{eventD};
 use crate::number::put16_at;
@@ -87,6 +87,25 @@ pub(crate) fn set_focus(s: &mut [u8], f: usize)
 
 // ---- a cell
 
+// A bare cell in a record: its state at a, its value from b on.
+fn cell_in(p: &[u8], a: usize, b: usize) -> [u8; Store::BARE]
+    requires { ⌜ (a < length (now p)) × ((b < 65536) × (b + 4 ≤ length (now p))) ⌝ }
+    ensures { λ r. ⌜ r ≡ cellIn (now (p .entry)) a b ⌝ }
+{
+    [p[a], p[b], p[b + 1], p[b + 2], p[b + 3]]
+}
+
+fn put_in(p: &mut [u8], a: usize, b: usize, c: [u8; Store::BARE])
+    requires { ⌜ (a < length (now p)) × ((b < 65536) × (b + 4 ≤ length (now p))) ⌝ }
+    ensures { λ _. ⌜ now (p .exit) ≡ putIn (now (p .entry)) a b c ⌝ }
+{
+    p[a] = c[0];
+    p[b] = c[1];
+    p[b + 1] = c[2];
+    p[b + 2] = c[3];
+    p[b + 3] = c[4];
+}
+
 // Where the cell of x begins.
 fn cell_at(x: usize) -> usize
     requires { ⌜ x < 65536 ⌝ }
@@ -110,18 +129,14 @@ pub(crate) fn bare_of(p: &[u8]) -> [u8; Store::BARE]
     requires { ⌜ bareSize ≤ length (now p) ⌝ }
     ensures { λ r. ⌜ r ≡ bareC (now (p .entry)) ⌝ }
 {
-    [p[0], p[1], p[2], p[3], p[4]]
+    cell_in(p, 0, 1)
 }
 
 fn put_bare(p: &mut [u8], c: [u8; Store::BARE])
     requires { ⌜ length (now p) ≡ cellSize ⌝ }
     ensures { λ _. ⌜ now (p .exit) ≡ putC (now (p .entry)) c ⌝ }
 {
-    p[0] = c[0];
-    p[1] = c[1];
-    p[2] = c[2];
-    p[3] = c[3];
-    p[4] = c[4];
+    put_in(p, 0, 1, c);
 }
 
 pub(crate) fn set_cell(s: &mut [u8], x: usize, c: [u8; Store::BARE])
@@ -275,7 +290,7 @@ pub(crate) fn stored_of(p: &[u8]) -> [u8; Store::BARE]
     requires { ⌜ length (now p) ≡ nodeSize ⌝ }
     ensures { λ r. ⌜ r ≡ storedN (now (p .entry)) ⌝ }
 {
-    [p[1], p[8], p[9], p[10], p[11]]
+    cell_in(p, 1, 8)
 }
 
 // The node that p begins with becomes of kind k.
@@ -293,11 +308,7 @@ fn swap_node(p: &mut [u8], k: u8, c: [u8; Store::BARE]) -> [u8; Store::BARE]
 {
     let d = stored_of(p);
     p[0] = k;
-    p[1] = c[0];
-    p[8] = c[1];
-    p[9] = c[2];
-    p[10] = c[3];
-    p[11] = c[4];
+    put_in(p, 1, 8, c);
     d
 }
 

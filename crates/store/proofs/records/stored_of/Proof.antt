@@ -1,35 +1,14 @@
-use mathlib.Core.Path.{refl}
-use native.Mathlib.Omega.{arith}
 use Rattle.layout.specs.Records.{storedN}
+use borrow.Author.Needs.{needs}
 use Rattle.store.proofs.records.stored_of.Statement.{statement}
 use Rattle.store.proofs.records.stored_of.Tie as tie
 
-shared-slice-read-t3 : tie.Need-shared-slice-read-t3
-shared-slice-read-t3 c = omega arith
-
-shared-slice-read-t5 : tie.Need-shared-slice-read-t5
-shared-slice-read-t5 c = omega arith
-
-shared-slice-read-t7 : tie.Need-shared-slice-read-t7
-shared-slice-read-t7 c = omega arith
-
-shared-slice-read-t9 : tie.Need-shared-slice-read-t9
-shared-slice-read-t9 c = omega arith
-
-shared-slice-read-t11 : tie.Need-shared-slice-read-t11
-shared-slice-read-t11 c = omega arith
+cell-in-requires : tie.Need-cell-in-requires
+cell-in-requires c κs = search needs
 
 returns : tie.Need-returns
 unfolding storedN
-returns c = refl
+returns c = c .cell-in .ensures
 
 pub stored-of-spec : {M : Type 1} → statement M
-stored-of-spec =
-    tie.close
-    (tie.spec
-    shared-slice-read-t3
-    shared-slice-read-t5
-    shared-slice-read-t7
-    shared-slice-read-t9
-    shared-slice-read-t11
-    returns)
+stored-of-spec = tie.close (tie.spec cell-in-requires returns)

@@ -1,8 +1,8 @@
-use mathlib.Core.Path.{refl}
+use mathlib.Core.Path.{_∙_}
 use native.Mathlib.Omega.{arith}
 use lib.ListN.{length-set}
-use borrow.Author.Needs.{needs}
 use Rattle.layout.specs.Records.{swapN}
+use borrow.Author.Needs.{needs}
 use Rattle.store.proofs.records.swap_node.Statement.{statement}
 use Rattle.store.proofs.records.swap_node.Tie as tie
 
@@ -10,60 +10,18 @@ stored-of-requires : tie.Need-stored-of-requires
 stored-of-requires c κs = search needs
 
 slice-write-p : tie.Need-slice-write-p
-slice-write-p c = omega arith
+slice-write-p c = search needs
 
-array-read-p : tie.Need-array-read-p
-array-read-p c = omega arith
-
-slice-write-p-2 : tie.Need-slice-write-p-2
-slice-write-p-2 c = simp length-set (omega arith)
-
-array-read-p-2 : tie.Need-array-read-p-2
-array-read-p-2 c = omega arith
-
-slice-write-p-3 : tie.Need-slice-write-p-3
-slice-write-p-3 c = simp length-set (omega arith)
-
-array-read-p-3 : tie.Need-array-read-p-3
-array-read-p-3 c = omega arith
-
-slice-write-p-4 : tie.Need-slice-write-p-4
-slice-write-p-4 c = simp length-set (omega arith)
-
-array-read-p-4 : tie.Need-array-read-p-4
-array-read-p-4 c = omega arith
-
-slice-write-p-5 : tie.Need-slice-write-p-5
-slice-write-p-5 c = simp length-set (omega arith)
-
-array-read-p-5 : tie.Need-array-read-p-5
-array-read-p-5 c = omega arith
-
-slice-write-p-6 : tie.Need-slice-write-p-6
-slice-write-p-6 c = simp length-set (omega arith)
+put-in-requires : tie.Need-put-in-requires
+put-in-requires c κs = (simp length-set (omega arith), (omega arith, simp length-set (omega arith)))
 
 same-length : tie.Need-same-length
-same-length c = simp length-set
+same-length c = c .before .before .put-in .kept .0 ∙ simp length-set
 
 returns : tie.Need-returns
 unfolding swapN
-returns c = (c .stored-of .ensures, refl)
+returns c = (c .before .before .before .before .stored-of .ensures, c .before .before .put-in .ensures)
 
 pub swap-node-spec : {M : Type 1} → statement M
 swap-node-spec =
-    tie.close
-    (tie.spec
-    stored-of-requires
-    slice-write-p
-    array-read-p
-    slice-write-p-2
-    array-read-p-2
-    slice-write-p-3
-    array-read-p-3
-    slice-write-p-4
-    array-read-p-4
-    slice-write-p-5
-    array-read-p-5
-    slice-write-p-6
-    same-length
-    returns)
+    tie.close (tie.spec stored-of-requires slice-write-p put-in-requires same-length returns)
