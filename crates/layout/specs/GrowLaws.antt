@@ -1,9 +1,9 @@
 -- Set, bind and wind on bytes are the rules' set and make of the view, and the store stays sound.
 -- No place of the layout stands here. Assumes nothing.
-use mathlib.Core.Path.{_≡_, refl, sym, ap, subst, _∙_, fun-ext}
-use mathlib.Core.Logic.{_≢_, _⊎_, inl, inr}
-use mathlib.Core.Bool.{Bool, true, false}
-use mathlib.Core.Option.{Option, none, some}
+use mathlib.Core.Path.{_≡_, refl, sym, ap, subst, _∙_}
+use mathlib.Core.Logic.{_≢_, inl, inr}
+use mathlib.Core.Bool.{true}
+use mathlib.Core.Option.{some}
 use Prim.Native.Nat.{ℕ, suc, _+_, _≤_, _<_}
 use native.Mathlib.Omega.{arith}
 use native.Mathlib.Decide.{ℕ-discrete}
@@ -14,20 +14,20 @@ use mir.Syntax.{w32}
 use mir.Val.{SFits}
 use Rattle.rules.specs.Basic.{upd, upd-same, upd-other}
 use Rattle.rules.specs.Tree.{What, blank, binding, wind}
-use Rattle.rules.specs.Values.{Cell, unbound, value, Values, putStored}
+use Rattle.rules.specs.Values.{Cell, unbound, value, Values}
 use Rattle.rules.specs.Store as store
 use Rattle.rules.specs.Grow.{grow, Growable}
 use Rattle.rules.specs.Calls.{setCell, set-sound, make, make-binding, make-sound}
-use Rattle.layout.specs.Limits.{cellSize, bareSize, nodeSize}
-use Rattle.layout.specs.Records.{vars, room, made, focus, withFocus, withMade, blankCell, ProperCell, valueC, cellOf, withCell, bareC, putC, nodeOf, withNode, kindN, parentN, varN, postN, storedN, depthN, nodeB}
+use Rattle.layout.specs.Limits.{nodeSize}
+use Rattle.layout.specs.Records.{vars, room, made, focus, withFocus, withMade, blankCell, ProperCell, valueC, bareC, putC, nodeOf, withNode, kindN, parentN, varN, storedN, depthN, nodeB}
 use Rattle.layout.specs.Kinds.{isIn, IsBinding, IsWind, not-both}
 use Rattle.layout.specs.Fields.{Fields, cells, nodes, fieldsOf, Fit}
 use Rattle.layout.specs.View.{asCell, whatN, upN, treeF, viewF, view}
-use Rattle.layout.specs.Sound.{NodeOk, depthAbove, HeadOk, Shape, Sound}
+use Rattle.layout.specs.Sound.{NodeOk, depthAbove, Shape, Sound}
 use Rattle.layout.specs.Writes.{depthUnder, setB, growB, bindB, windB}
 use Rattle.layout.specs.Made.{nextOf, IsFull}
 use Rattle.layout.specs.Becomes.{Becomes}
-use Rattle.layout.specs.Laws.{of-buffer, node-in, cell-in, Wrote, nodeF, cellF, headF, fields-number, wrote-node, wrote-cell, wrote-head, wrote-fit, then}
+use Rattle.layout.specs.Laws.{of-buffer, node-in, cell-in, Wrote, nodeF, cellF, madeTo, focusTo, fields-vars, wrote-node, wrote-cell, wrote-made, wrote-focus, wrote-fit, then}
 use Rattle.layout.specs.RecordLaws.{put-length, bare-length, value-length, node-length, bare-put, node-kind, node-parent, node-var, node-post, node-stored, node-depth, as-blank, as-value}
 use Rattle.layout.specs.SoundLaws.{what-binding, what-wind, what-blank, up-node, blank-node, not-blank, depth-few, sound-fit, sound-view, shape-inners, parents-made, shape-blanks, shape-by-numbers}
 use Rattle.layout.specs.MoveLaws.{through, becomes}
@@ -105,26 +105,26 @@ module _ (s : List ℕ) (ok : Sound s) (space : made s < room s) (p : List ℕ) 
   m = made s
 
   -- with the cells c
-  abbrev withCells : (ℕ → List ℕ) → Fields
-  withCells c = record { head = headF 3 m (headF 2 (m + 1) (fieldsOf s)) .head; cell = c; node = upd (nodes s) m p }
+  abbrev grownWith : (ℕ → List ℕ) → Fields
+  grownWith c = record { head = focusTo m (madeTo (m + 1) (fieldsOf s)) .head; cell = c; node = upd (nodes s) m p }
 
-  wrote-grow : Wrote s (growB s p) (withCells (cells s))
+  wrote-grow : Wrote s (growB s p) (grownWith (cells s))
   unfolding growB fieldsOf
   wrote-grow =
       let fit : Fit s = sound-fit s ok in
       let t : List ℕ = withNode s m p in
       let a : Wrote s t (nodeF m p (fieldsOf s)) = wrote-node s m p fit space long in
       let fit₁ : Fit t = wrote-fit a refl refl fit in
-      let b : Wrote s (withMade t (m + 1)) (headF 2 (m + 1) (nodeF m p (fieldsOf s))) =
-      subst (λ (f : Fields). Wrote s (withMade t (m + 1)) (headF 2 (m + 1) f)) (a .fields) (then a (wrote-head t 2 (m + 1) fit₁ (omega arith) (omega arith))) in
+      let b : Wrote s (withMade t (m + 1)) (madeTo (m + 1) (nodeF m p (fieldsOf s))) =
+      subst (λ (f : Fields). Wrote s (withMade t (m + 1)) (madeTo (m + 1) f)) (a .fields) (then a (wrote-made t (m + 1) fit₁)) in
       let fit₂ : Fit (withMade t (m + 1)) = wrote-fit b refl refl fit in
-      subst (λ (f : Fields). Wrote s (withFocus (withMade t (m + 1)) m) (headF 3 m f)) (b .fields) (then b (wrote-head (withMade t (m + 1)) 3 m fit₂ (omega arith) (omega arith)))
+      subst (λ (f : Fields). Wrote s (withFocus (withMade t (m + 1)) m) (focusTo m f)) (b .fields) (then b (wrote-focus (withMade t (m + 1)) m fit₂))
 
-  grown-shape : parentN p < m → NodeOk (vars s) m (depthN (nodes s (parentN p))) p → (c : ℕ → List ℕ) → ((y : ℕ) → y < vars s → ProperCell (bareC (c y))) → Shape (withCells c)
+  grown-shape : parentN p < m → NodeOk (vars s) m (depthN (nodes s (parentN p))) p → (c : ℕ → List ℕ) → ((y : ℕ) → y < vars s → ProperCell (bareC (c y))) → Shape (grownWith c)
   unfolding fieldsOf
   grown-shape below good c proper =
       let sh : Shape (fieldsOf s) = ok .fields .shape in
-      shape-by-numbers (withCells c)
+      shape-by-numbers (grownWith c)
       (record {
         vars-low = sh .head .vars-low;
         vars-high = sh .head .vars-high;
@@ -143,14 +143,14 @@ module _ (s : List ℕ) (ok : Sound s) (space : made s < room s) (p : List ℕ) 
       old : (n : ℕ) → n < m → upd (nodes s) m p n ≡ nodes s n
       old n h = upd-other (nodes s) m n p (λ e. omega arith)
 
-      node : (n : ℕ) → 1 ≤ n → n < m + 1 → Dec (n ≡ m) → NodeOk (vars s) n (depthAbove (withCells c) n) (upd (nodes s) m p n)
+      node : (n : ℕ) → 1 ≤ n → n < m + 1 → Dec (n ≡ m) → NodeOk (vars s) n (depthAbove (grownWith c) n) (upd (nodes s) m p n)
       node n l h (yes e) = rw (e, upd-same, old (parentN p) below) good
       node n l h (no e) = rw (old n (omega arith), old (parentN (nodes s n)) (parents-made (fieldsOf s) (ok .fields .shape) n l (omega arith)))
           (shape-inners (fieldsOf s) (ok .fields .shape) n l (omega arith))
 
   -- the tree has one node more, in
   grown-seen : (c : ℕ → List ℕ) (w : What) → whatN p ≡ w → upN p ≡ some (focus s) → depthN p ≡ depthUnder s → isIn (kindN p) ≡ true
-      → viewF (withCells c) ≡ record {
+      → viewF (grownWith c) ≡ record {
         tree = grow m (focus s) w (depthUnder s) (view s .tree);
         focus = m;
         values = record { cell = λ y. asCell (bareC (c y)); stored = upd (view s .values .stored) m (asCell (storedN p)) };
@@ -191,7 +191,7 @@ module _ (s : List ℕ) (ok : Sound s) (space : IsFull s → ⊥) where
 
   pub grown-vars : (p : List ℕ) → length p ≡ nodeSize → vars (growB s p) ≡ vars s
   unfolding fieldsOf
-  grown-vars p long = fields-number (growB s p) (wrote-grow s ok (space-left s ok space) p long .fields) 0
+  grown-vars p long = fields-vars (growB s p) (wrote-grow s ok (space-left s ok space) p long .fields)
 
   -- the next number may become a child of the focus
   pub can-grow : (w : What) → w ≢ blank → Growable (view s .tree) (nextOf s) (focus s) w (depthUnder s)
@@ -263,12 +263,12 @@ module _ (s : List ℕ) (ok : Sound s) (space : IsFull s → ⊥) where
         still = λ z. absurd (not-both is z);
       } in
       let t : List ℕ = growB s p in
-      let w : Wrote s t (withCells s ok room-left p long (cells s)) = wrote-grow s ok room-left p long in
+      let w : Wrote s t (grownWith s ok room-left p long (cells s)) = wrote-grow s ok room-left p long in
       let fit′ : Fit t = wrote-fit w refl refl fit in
-      let numbers = fields-number t (w .fields) 0 in
+      let numbers = fields-vars t (w .fields) in
       let known′ : x < vars t = omega arith in
       let q : List ℕ = taken s fit x known v in
-      let all : Wrote s (setB t x v) (withCells s ok room-left p long (upd (cells s) x q)) =
+      let all : Wrote s (setB t x v) (grownWith s ok room-left p long (upd (cells s) x q)) =
       subst (λ (g : Fields). Wrote s (setB t x v) (cellF x (putC (g .cell x) (valueC v)) g)) (w .fields) (then w (wrote-set t fit′ x known′ v)) in
       let bytes : setB t x v ≡ bindB s x v = ap (λ (d : List ℕ). setB (growB s (nodeB 3 f x 0 (bareC d) (depthUnder s))) x v) (cell-in s x known) in
       subst (λ (u : List ℕ). Becomes s u (make (made s) (binding x) (value v) (depthUnder s) (view s))) bytes

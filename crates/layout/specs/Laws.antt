@@ -14,7 +14,7 @@ use borrow.Author.Tests.{lt-ltb, le-ltb, ne-eqb}
 use Rattle.rules.specs.Basic.{upd, upd-same, upd-other, eqb-self}
 use Rattle.layout.specs.Limits.{header, cellSize, nodeSize, cellAt, nodeAt, sizeOf}
 use Rattle.layout.specs.Bytes.{part, u16, put16, part-length, splice-length, splice-same, splice-before, splice-after, splice-apart, splice-drop, put16-length, u16-same, u16-other}
-use Rattle.layout.specs.Records.{headOf, headN, withHead, vars, room, cellOf, withCell, nodeOf, withNode, blankNode}
+use Rattle.layout.specs.Records.{headOf, headN, withHead, withMade, withFocus, vars, room, cellOf, withCell, nodeOf, withNode, blankNode}
 use Rattle.layout.specs.Fields.{Fields, varsF, roomF, cells, nodes, fieldsOf, Fit, past}
 
 -- ---- the records of a buffer
@@ -110,13 +110,25 @@ nodeF n p f = record { head = f .head; cell = f .cell; node = upd (f .node) n p 
 abbrev pub cellF : ℕ → List ℕ → Fields → Fields
 cellF x c f = record { head = f .head; cell = upd (f .cell) x c; node = f .node }
 
-abbrev pub headF : ℕ → ℕ → Fields → Fields
+abbrev headF : ℕ → ℕ → Fields → Fields
 headF k v f = record { head = λ j. cond (eqb j k) v (f .head j); cell = f .cell; node = f .node }
 
+abbrev pub madeTo : ℕ → Fields → Fields
+madeTo = headF 2
+
+abbrev pub focusTo : ℕ → Fields → Fields
+focusTo = headF 3
+
 -- the numbers of the header as fields
-pub fields-number : (t : List ℕ) {f : Fields} → fieldsOf t ≡ f → (k : ℕ) → headN t k ≡ f .head k
+fields-number : (t : List ℕ) {f : Fields} → fieldsOf t ≡ f → (k : ℕ) → headN t k ≡ f .head k
 unfolding fieldsOf
 fields-number t e k = ap (λ (g : Fields). g .head k) e
+
+pub fields-vars : (t : List ℕ) {f : Fields} → fieldsOf t ≡ f → vars t ≡ varsF f
+fields-vars t e = fields-number t e 0
+
+pub fields-room : (t : List ℕ) {f : Fields} → fieldsOf t ≡ f → room t ≡ roomF f
+fields-room t e = fields-number t e 1
 
 same-past : (s t : List ℕ) → vars t ≡ vars s → room t ≡ room s → drop (sizeOf (vars s) (room s)) t ≡ drop (sizeOf (vars s) (room s)) s → past t ≡ past s
 unfolding past
@@ -261,7 +273,7 @@ module _ (s : List ℕ) (k v : ℕ) (fit : Fit s) (clear : 2 ≤ k) (inside : 2 
       same-past s headed head-vars head-room
       (splice-drop s bytes 0 header head-length (omega arith) (sizeOf (vars s) (room s)) (omega arith))
 
-  pub wrote-head : Wrote s headed (headF k v (fieldsOf s))
+  wrote-head : Wrote s headed (headF k v (fieldsOf s))
   unfolding fieldsOf withHead
   wrote-head = record {
     fields = λ i. record {
@@ -273,11 +285,18 @@ module _ (s : List ℕ) (k v : ℕ) (fit : Fit s) (clear : 2 ≤ k) (inside : 2 
     rest = head-rest;
   }
 
+module _ (s : List ℕ) (v : ℕ) (fit : Fit s) where
+  pub wrote-made : Wrote s (withMade s v) (madeTo v (fieldsOf s))
+  wrote-made = wrote-head s 2 v fit (omega arith) (omega arith)
+
+  pub wrote-focus : Wrote s (withFocus s v) (focusTo v (fieldsOf s))
+  wrote-focus = wrote-head s 3 v fit (omega arith) (omega arith)
+
 -- ---- writes in a row
 pub wrote-fit : {s t : List ℕ} {f : Fields} → Wrote s t f → varsF f ≡ vars s → roomF f ≡ room s → Fit s → Fit t
 wrote-fit {s} {t} w v r fit =
-    let vars = fields-number t (w .fields) 0 in
-    let room = fields-number t (w .fields) 1 in record { v = omega arith; n = omega arith; long = omega (arith, w .long) }
+    let vars = fields-vars t (w .fields) in
+    let room = fields-room t (w .fields) in record { v = omega arith; n = omega arith; long = omega (arith, w .long) }
 
 pub then : {s t u : List ℕ} {f g : Fields} → Wrote s t f → Wrote t u g → Wrote s u g
 then a b = record { fields = b .fields; long = b .long ∙ a .long; rest = b .rest ∙ a .rest }

@@ -22,7 +22,7 @@ use Rattle.layout.specs.View.{asCell, whatN, upN, treeF, viewF, view}
 use Rattle.layout.specs.Sound.{NodeOk, depthAbove, HeadOk, Shape, Sound}
 use Rattle.layout.specs.Writes.{swapB, turnB, moveB, leaveB, enterB, Turns}
 use Rattle.layout.specs.Becomes.{Becomes}
-use Rattle.layout.specs.Laws.{OfBuffer, of-buffer, node-in, cell-in, Wrote, nodeF, cellF, headF, fields-number, wrote-node, wrote-cell, wrote-head, wrote-fit, then}
+use Rattle.layout.specs.Laws.{OfBuffer, of-buffer, node-in, cell-in, Wrote, nodeF, cellF, focusTo, fields-vars, fields-room, wrote-node, wrote-cell, wrote-focus, wrote-fit, then}
 use Rattle.layout.specs.RecordLaws.{put-length, turn-length, swap-length, bare-length, stored-length, bare-put, SameNode, turn-kind, turn-same, turn-stored, swap-kind, swap-same, swap-stored}
 use Rattle.layout.specs.SoundLaws.{what-binding, what-wind, up-node, inner-up, sound-fit, sound-view, shape-inners, parents-made, shape-blanks, shape-by-numbers}
 
@@ -84,7 +84,7 @@ module _ (f : Fields) (buffer : OfBuffer f) (n k g : ℕ) where
   -- what is seen with a node p in place of n that is of kind k and else as it was, and with these cells and values
   turned-seen : (p : List ℕ) (cs : ℕ → List ℕ) (v : Values) → SameNode p was → Alike (kindN p) (kindN was) → kindN p ≡ k
       → _≡_ {A = ℕ → Cell} (λ y. asCell (bareC (cs y))) (v .cell) → _≡_ {A = ℕ → Cell} (λ m. asCell (storedN (upd (f .node) n p m))) (v .stored)
-      → viewF (headF 3 g (record { head = f .head; cell = cs; node = upd (f .node) n p })) ≡ record { tree = viewF f .tree; focus = g; values = v; mode = upd (viewF f .mode) n (isIn k) }
+      → viewF (focusTo g (record { head = f .head; cell = cs; node = upd (f .node) n p })) ≡ record { tree = viewF f .tree; focus = g; values = v; mode = upd (viewF f .mode) n (isIn k) }
   unfolding viewF treeF
   turned-seen p cs v same alike kind cell stored = λ i. record {
     tree = record { what = unseen whatN (f .node) n p (same-what p was same alike) i; up = unseen upN (f .node) n p (same-up p was same alike) i; rank = unseen depthN (f .node) n p (same .depth) i };
@@ -93,7 +93,7 @@ module _ (f : Fields) (buffer : OfBuffer f) (n k g : ℕ) where
     mode = (through (λ (q : List ℕ). isIn (kindN q)) (f .node) n p ∙ ap (λ (l : ℕ). upd (λ (m : ℕ). isIn (kindN (f .node m))) n (isIn l)) kind) i;
   }
 
-  swapped-seen : IsBinding (kindN was) → IsBinding k → viewF (headF 3 g (swapF f n k)) ≡ turned f n k g
+  swapped-seen : IsBinding (kindN was) → IsBinding k → viewF (focusTo g (swapF f n k)) ≡ turned f n k g
   unfolding viewF treeF
   swapped-seen a b =
       let long : length was ≡ nodeSize = buffer .node-long n in
@@ -106,7 +106,7 @@ module _ (f : Fields) (buffer : OfBuffer f) (n k g : ℕ) where
       (through (λ (q : List ℕ). asCell (bareC q)) (f .cell) x (putC (f .cell x) (storedN was)) ∙ ap (λ (c : List ℕ). upd (λ (y : ℕ). asCell (bareC (f .cell y))) x (asCell c)) bare)
       (through (λ (q : List ℕ). asCell (storedN q)) (f .node) n p ∙ ap (λ (c : List ℕ). upd (λ (m : ℕ). asCell (storedN (f .node m))) n (asCell c)) stored))
 
-  wound-seen : IsWind (kindN was) → IsWind k → viewF (headF 3 g (windF f n k)) ≡ turned f n k g
+  wound-seen : IsWind (kindN was) → IsWind k → viewF (focusTo g (windF f n k)) ≡ turned f n k g
   unfolding viewF treeF
   wound-seen a b =
       let long : length was ≡ nodeSize = buffer .node-long n in
@@ -150,10 +150,10 @@ module _ (f : Fields) (buffer : OfBuffer f) (n k g : ℕ) where
 
     -- with a node p in place of n that is else as it was, and with these cells
     turned-shape : (p : List ℕ) (cs : ℕ → List ℕ) → SameNode p was → Alike (kindN p) (kindN was) → (IsBinding (kindN p) → ProperCell (storedN p)) → (IsWind (kindN p) → storedN p ≡ blankCell)
-        → ((y : ℕ) → y < varsF f → ProperCell (bareC (cs y))) → Shape (headF 3 g (record { head = f .head; cell = cs; node = upd (f .node) n p }))
+        → ((y : ℕ) → y < varsF f → ProperCell (bareC (cs y))) → Shape (focusTo g (record { head = f .head; cell = cs; node = upd (f .node) n p }))
     turned-shape p cs same alike stored still proper =
         let o = shape-inners f ok n inner below in
-        shape-by-numbers (headF 3 g (record { head = f .head; cell = cs; node = upd (f .node) n p })) (head-kept (ok .head)) proper
+        shape-by-numbers (focusTo g (record { head = f .head; cell = cs; node = upd (f .node) n p })) (head-kept (ok .head)) proper
         (upd-other (f .node) n 0 p (λ e. omega arith) ∙ ok .top)
         (nodes-kept p (same .depth) record {
           node = alike-node alike;
@@ -166,7 +166,7 @@ module _ (f : Fields) (buffer : OfBuffer f) (n k g : ℕ) where
         })
         (λ m l h. upd-other (f .node) n m p (λ e. omega arith) ∙ shape-blanks f ok m l h)
 
-    swapped-shape : IsBinding (kindN was) → IsBinding k → Shape (headF 3 g (swapF f n k))
+    swapped-shape : IsBinding (kindN was) → IsBinding k → Shape (focusTo g (swapF f n k))
     swapped-shape a b =
         let long : length was ≡ nodeSize = buffer .node-long n in
         let p : List ℕ = swapN was k (bareC (f .cell x)) in
@@ -178,7 +178,7 @@ module _ (f : Fields) (buffer : OfBuffer f) (n k g : ℕ) where
         (λ z. rw stored (ok .cells x (o .var a))) (λ z. absurd (not-both b (rw kind at z)))
         (cells-kept x (putC (f .cell x) (storedN was)) (rw bare (o .stored a)))
 
-    wound-shape : IsWind (kindN was) → IsWind k → Shape (headF 3 g (windF f n k))
+    wound-shape : IsWind (kindN was) → IsWind k → Shape (focusTo g (windF f n k))
     wound-shape a b =
         let long : length was ≡ nodeSize = buffer .node-long n in
         let p : List ℕ = turnN was k in
@@ -197,7 +197,7 @@ wrote-swap s n k fit below known =
     let long : length p ≡ nodeSize = swap-length (nodes s n) k (bareC (cells s x)) ∙ of-buffer s fit .node-long n in
     let w : Wrote s t (nodeF n p (fieldsOf s)) = wrote-node s n p fit below long in
     let fit′ : Fit t = wrote-fit w refl refl fit in
-    let numbers = fields-number t (w .fields) 0 in
+    let numbers = fields-vars t (w .fields) in
     let known′ : x < vars t = omega arith in
     let same : cellOf t x ≡ cells s x = sym (cell-in t x known′) ∙ ap (λ (f : Fields). f .cell x) (w .fields) in
     let c : List ℕ = putC (cells s x) (storedN (nodes s n)) in
@@ -222,7 +222,7 @@ becomes {s} {t} {f} w ok wrote v r shape seen sound =
     record {
       sound = record { long = fit .long; fields = rw (wrote .fields) (record { shape = shape; ins = ins .modes }) };
       seen = ap viewF (wrote .fields) ∙ seen;
-      kept = record { vars = fields-number t (wrote .fields) 0 ∙ v; room = fields-number t (wrote .fields) 1 ∙ r; long = wrote .long; past = wrote .rest };
+      kept = record { vars = fields-vars t (wrote .fields) ∙ v; room = fields-room t (wrote .fields) ∙ r; long = wrote .long; past = wrote .rest };
     }
 
 module _ (s : List ℕ) (ok : Sound s) (n : ℕ) (inner : 1 ≤ n) (below : n < made s) where
@@ -250,9 +250,9 @@ module _ (s : List ℕ) (ok : Sound s) (n : ℕ) (inner : 1 ≤ n) (below : n < 
       let fit : Fit s = sound-fit s ok in
       let w : Wrote s (swapB s n k) (swapF (fieldsOf s) n k) = wrote-swap s n k fit in-room (node-ok .var a) in
       let fit′ : Fit (swapB s n k) = wrote-fit w refl refl fit in
-      let all : Wrote s (moveB s n k g) (headF 3 g (swapF (fieldsOf s) n k)) =
+      let all : Wrote s (moveB s n k g) (focusTo g (swapF (fieldsOf s) n k)) =
       rw (kind-binding (kindN (nodeOf s n)) _ _ _ _ (rw (node-in s n in-room) at a))
-      (subst (λ (f : Fields). Wrote s (withFocus (swapB s n k) g) (headF 3 g f)) (w .fields) (then w (wrote-head (swapB s n k) 3 g fit′ (omega arith) (omega arith)))) in
+      (subst (λ (f : Fields). Wrote s (withFocus (swapB s n k) g) (focusTo g f)) (w .fields) (then w (wrote-focus (swapB s n k) g fit′))) in
       becomes (turned (fieldsOf s) n k g) ok all refl refl
       (swapped-shape (fieldsOf s) (of-buffer s fit) n k g shape inner below goal a b)
       (swapped-seen (fieldsOf s) (of-buffer s fit) n k g a b) sound
@@ -260,9 +260,9 @@ module _ (s : List ℕ) (ok : Sound s) (n : ℕ) (inner : 1 ≤ n) (below : n < 
       let fit : Fit s = sound-fit s ok in
       let w : Wrote s (withNode s n (turnN (nodeOf s n) k)) (windF (fieldsOf s) n k) = wrote-wind s n k fit in-room in
       let fit′ : Fit (withNode s n (turnN (nodeOf s n) k)) = wrote-fit w refl refl fit in
-      let all : Wrote s (moveB s n k g) (headF 3 g (windF (fieldsOf s) n k)) =
+      let all : Wrote s (moveB s n k g) (focusTo g (windF (fieldsOf s) n k)) =
       rw (kind-wind (kindN (nodeOf s n)) _ _ _ _ (rw (node-in s n in-room) at a))
-      (subst (λ (f : Fields). Wrote s (withFocus (withNode s n (turnN (nodeOf s n) k)) g) (headF 3 g f)) (w .fields) (then w (wrote-head (withNode s n (turnN (nodeOf s n) k)) 3 g fit′ (omega arith) (omega arith)))) in
+      (subst (λ (f : Fields). Wrote s (withFocus (withNode s n (turnN (nodeOf s n) k)) g) (focusTo g f)) (w .fields) (then w (wrote-focus (withNode s n (turnN (nodeOf s n) k)) g fit′))) in
       becomes (turned (fieldsOf s) n k g) ok all refl refl
       (wound-shape (fieldsOf s) (of-buffer s fit) n k g shape inner below goal a b)
       (wound-seen (fieldsOf s) (of-buffer s fit) n k g a b) sound

@@ -2,11 +2,10 @@
 -- what the calls of one way come to together. No place of the layout stands here. Assumes nothing.
 use mathlib.Core.Path.{_≡_, refl, sym, ap, _∙_}
 use mathlib.Core.Logic.{_≢_, _⊎_, inl, inr}
-use mathlib.Core.Bool.{Bool, true, false, not}
+use mathlib.Core.Bool.{true, false, not}
 use mathlib.Core.Option.{none, some}
-use Prim.Native.Nat.{ℕ, _≤_, _<_}
+use Prim.Native.Nat.{ℕ, _<_}
 use native.Mathlib.Omega.{arith}
-use native.Mathlib.Decide.{decLe}
 use mathlib.Core.List.{List}
 use lib.ListN.{length}
 use Rattle.rules.specs.Basic.{upd-same, clash, on, some≢none}
@@ -15,7 +14,7 @@ use Rattle.rules.specs.Store as store
 use Rattle.rules.specs.Store.{goto, goto-focus, goto-tree, goto-sound, goto-here}
 use Rattle.rules.specs.Walk.{Turn, arrived, outside, above, turn, goto-out, goto-in, far-out, far-in}
 use Rattle.layout.specs.Limits.{nodeSize}
-use Rattle.layout.specs.Records.{vars, room, made, focus, nodeOf, withNode, kindN, parentN, swapN, topNode}
+use Rattle.layout.specs.Records.{vars, room, made, focus, nodeOf, withNode, kindN, parentN, swapN}
 use Rattle.layout.specs.Kinds.{isIn, isOut, kind-binding, kind-wind, node-kind, out-not-in, not-true, not-false, IsNode}
 use Rattle.layout.specs.Fields.{Fields, fieldsOf, nodes, Fit, varsF, roomF}
 use Rattle.layout.specs.View.{whatN, upN, treeF, viewF, view}
@@ -24,7 +23,7 @@ use Rattle.layout.specs.Writes.{turnB, leaveB, enterB, Turns}
 use Rattle.layout.specs.Made.{IsMade}
 use Rattle.layout.specs.Becomes.{Kept, Becomes}
 use Rattle.layout.specs.Routes.{movesTo}
-use Rattle.layout.specs.Laws.{of-buffer, node-in, Wrote, wrote-node, wrote-fit, fields-number}
+use Rattle.layout.specs.Laws.{of-buffer, node-in, Wrote, wrote-node, wrote-fit, fields-vars, fields-room}
 use Rattle.layout.specs.RecordLaws.{swap-length, turn-same, swap-same}
 use Rattle.layout.specs.SoundLaws.{Place, is-top, is-inner, is-blank, place, what-blank, up-top, out-top, up-inner, blank-node, not-blank, sound-fit, sound-view, shape-inners}
 use Rattle.layout.specs.MoveLaws.{wrote-swap, wrote-wind, sound-turns, inner, leave-becomes, enter-becomes}
@@ -45,7 +44,7 @@ unfolding fieldsOf
 swapped-fits s t n k c fit below e =
     let long : length (swapN (nodeOf s n) k c) ≡ nodeSize = swap-length (nodeOf s n) k c ∙ ap length (sym (node-in s n below)) ∙ of-buffer s fit .node-long n in
     let w = wrote-node s n (swapN (nodeOf s n) k c) fit below long in
-    rw e (wrote-fit w refl refl fit, fields-number (withNode s n (swapN (nodeOf s n) k c)) (w .fields) 0)
+    rw e (wrote-fit w refl refl fit, fields-vars (withNode s n (swapN (nodeOf s n) k c)) (w .fields))
 
 -- ---- a turn: the buffer still fits, and the node keeps its parent
 pub record Turned (s t : List ℕ) (n : ℕ) : Type 0 where
@@ -56,7 +55,7 @@ pub record Turned (s t : List ℕ) (n : ℕ) : Type 0 where
 turned-from : {s t : List ℕ} {f : Fields} (n : ℕ) → Wrote s t f → varsF f ≡ vars s → roomF f ≡ room s → Fit s → n < room s → parentN (f .node n) ≡ parentN (nodes s n) → Turned s t n
 unfolding fieldsOf
 turned-from {s} {t} n w v r fit below same =
-    let rooms = fields-number t (w .fields) 1 in
+    let rooms = fields-room t (w .fields) in
     let inside : n < room t = omega arith in
     record {
       fit = wrote-fit w v r fit;
