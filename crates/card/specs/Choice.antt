@@ -11,7 +11,7 @@ use Rattle.text.specs.Limits.{maxBytes}
 use Rattle.text.specs.Lines.{written}
 use Rattle.card.specs.declared.check.Verdict.{Verdict}
 use Rattle.card.specs.declared.check.Verdict.the-variants.{Good, Bad}
-use Rattle.layout.specs.Same.{Bytes}
+use Rattle.layout.specs.Bytes.{Bytes}
 use Rattle.demands.specs.NoChoice.{no-choice}
 use Rattle.text.specs.declared.line.Op.{Op}
 use Rattle.text.specs.Decimal.{whole}

@@ -24,8 +24,8 @@ use Rattle.layout.specs.Sound.{Sound}
 use Rattle.layout.specs.Made.{nextOf}
 use Rattle.layout.specs.Becomes.{Kept}
 use Rattle.layout.specs.Events.{eventsB, told}
-use Rattle.layout.specs.SoundLaws.{sound-view}
-use Rattle.layout.specs.WalkLaws.{kept-self, focus-made}
+use Rattle.layout.specs.laws.SoundLaws.{sound-view}
+use Rattle.layout.specs.laws.WalkLaws.{kept-self, focus-made}
 use Rattle.layout.specs.Events.{eventsTo}
 use Rattle.promises.specs.Answers.{Numbers, seen}
 use Rattle.promises.specs.Promises.{meaning, at, byAt, roomFor, Shows, FarDone, SwitchDone}

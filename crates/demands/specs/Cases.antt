@@ -27,7 +27,7 @@ use Rattle.layout.specs.View.{asCell}
 use Rattle.layout.specs.Sound.{Sound}
 use Rattle.layout.specs.Made.{IsFull}
 use Rattle.layout.specs.Events.{eventD, eventB, eventsB}
-use Rattle.layout.specs.Same.{part-take}
+use Rattle.layout.specs.laws.Same.{part-take}
 use Rattle.layout.specs.Opening.{topCells}
 use Rattle.promises.specs.Answers.{Numbers, refusal, seen}
 use Rattle.promises.specs.Tables.{First}

@@ -31,10 +31,11 @@ use Rattle.layout.specs.Sound.{Sound}
 use Rattle.layout.specs.Made.{IsMade}
 use Rattle.layout.specs.Becomes.{Kept}
 use Rattle.layout.specs.Events.{told, eventsTo}
-use Rattle.layout.specs.SoundLaws.{sound-view}
-use Rattle.layout.specs.RouteLaws.{events-none}
-use Rattle.layout.specs.WalkLaws.{kept-self, focus-made, seen-made}
-use Rattle.layout.specs.Same.{Bytes, becomes-one}
+use Rattle.layout.specs.laws.SoundLaws.{sound-view}
+use Rattle.layout.specs.laws.RouteLaws.{events-none}
+use Rattle.layout.specs.laws.WalkLaws.{kept-self, focus-made, seen-made}
+use Rattle.layout.specs.Bytes.{Bytes}
+use Rattle.layout.specs.laws.Same.{becomes-one}
 use Rattle.layout.specs.Opening.{topCells}
 use Rattle.promises.specs.Answers.{Numbers, refusal, seen}
 use Rattle.promises.specs.Tables.{Row, row, First, Applies, Lowest, Rising, first-exact, first-lowest, rising-above}

@@ -18,8 +18,9 @@ use Rattle.layout.specs.Fields.{fieldsOf}
 use Rattle.layout.specs.View.{viewF, view}
 use Rattle.layout.specs.Sound.{Sound}
 use Rattle.layout.specs.Becomes.{Kept}
-use Rattle.layout.specs.WalkLaws.{kept-self, kept-then}
-use Rattle.layout.specs.Same.{Bytes, same-whole, same-meant}
+use Rattle.layout.specs.laws.WalkLaws.{kept-self, kept-then}
+use Rattle.layout.specs.Bytes.{Bytes}
+use Rattle.layout.specs.laws.Same.{same-whole, same-meant}
 use Rattle.promises.specs.Answers.{Numbers}
 use Rattle.promises.specs.Promises.{meaning, roomFor}
 use Rattle.promises.specs.Calls.{Promised, called}

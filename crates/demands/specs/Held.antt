@@ -22,10 +22,11 @@ use Rattle.layout.specs.View.{viewF, view}
 use Rattle.layout.specs.Sound.{Sound}
 use Rattle.layout.specs.Becomes.{Becomes}
 use Rattle.layout.specs.Writes.{swapB, turnB, moveB, leaveB, enterB, Turns}
-use Rattle.layout.specs.SoundLaws.{sound-view}
-use Rattle.layout.specs.MoveLaws.{leave-becomes, enter-becomes}
-use Rattle.layout.specs.WalkLaws.{kept-self, becomes-then, turns}
-use Rattle.layout.specs.Same.{Bytes, becomes-one}
+use Rattle.layout.specs.laws.SoundLaws.{sound-view}
+use Rattle.layout.specs.laws.MoveLaws.{leave-becomes, enter-becomes}
+use Rattle.layout.specs.laws.WalkLaws.{kept-self, becomes-then, turns}
+use Rattle.layout.specs.Bytes.{Bytes}
+use Rattle.layout.specs.laws.Same.{becomes-one}
 use Rattle.promises.specs.Answers.{Numbers}
 use Rattle.promises.specs.Promises.{SwitchDone}
 

@@ -27,10 +27,11 @@ use Rattle.layout.specs.View.{asCell, whatN, upN, treeF, viewF, view}
 use Rattle.layout.specs.Sound.{Sound}
 use Rattle.layout.specs.Made.{IsMade}
 use Rattle.layout.specs.Events.{eventsB, told}
-use Rattle.layout.specs.EventLaws.{events-length}
-use Rattle.layout.specs.Laws.{of-buffer, cell-past}
-use Rattle.layout.specs.SoundLaws.{what-top, what-blank, up-top, up-blank, Place, is-top, is-inner, is-blank, place, blank-node, sound-fit, sound-view}
-use Rattle.layout.specs.Same.{Bytes, same-meant, AgreeTo, agree-vars, agree-room, agree-view, agree-sound, agree-back}
+use Rattle.layout.specs.laws.EventLaws.{events-length}
+use Rattle.layout.specs.laws.Laws.{of-buffer, cell-past}
+use Rattle.layout.specs.laws.SoundLaws.{what-top, what-blank, up-top, up-blank, Place, is-top, is-inner, is-blank, place, blank-node, sound-fit, sound-view}
+use Rattle.layout.specs.Bytes.{Bytes}
+use Rattle.layout.specs.laws.Same.{same-meant, AgreeTo, agree-vars, agree-room, agree-view, agree-sound, agree-back}
 use Rattle.layout.specs.Opening.{topCells}
 use mathlib.Core.Logic.{inl}
 use Rattle.promises.specs.Answers.{Numbers, refusal}

@@ -9,8 +9,9 @@ use Rattle.rules.specs.Act.{Call}
 use Rattle.layout.specs.Limits.{sizeOf}
 use Rattle.layout.specs.Records.{vars, room}
 use Rattle.layout.specs.Becomes.{Kept}
-use Rattle.layout.specs.WalkLaws.{kept-self}
-use Rattle.layout.specs.Same.{Bytes, same-whole}
+use Rattle.layout.specs.laws.WalkLaws.{kept-self}
+use Rattle.layout.specs.Bytes.{Bytes}
+use Rattle.layout.specs.laws.Same.{same-whole}
 use Rattle.promises.specs.Answers.{Numbers}
 use Rattle.promises.specs.Promises.{OpenPromise}
 use Rattle.promises.specs.Calls.{Promised, Called, called, Code, is-done, is-refused, code-of, done-sound, done-leaves}

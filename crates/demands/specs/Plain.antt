@@ -22,9 +22,9 @@ use Rattle.rules.specs.Effects.{SameDeep}
 use Rattle.layout.specs.Records.{focus}
 use Rattle.layout.specs.View.{view}
 use Rattle.layout.specs.Sound.{Sound}
-use Rattle.layout.specs.SoundLaws.{sound-view, sound-ranked}
-use Rattle.layout.specs.Same.{own-value, binding-up, others-blank}
-use Rattle.layout.specs.Reading.{top-up}
+use Rattle.layout.specs.laws.SoundLaws.{sound-view, sound-ranked}
+use Rattle.layout.specs.laws.Same.{own-value, binding-up, others-blank}
+use Rattle.layout.specs.laws.Reading.{top-up}
 use Rattle.promises.specs.Promises.{meaning}
 use Rattle.demands.specs.Tests.{sizeAt, world, seen-numbered}
 

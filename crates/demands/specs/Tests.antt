@@ -25,12 +25,12 @@ use Rattle.layout.specs.Fields.{fieldsOf}
 use Rattle.layout.specs.View.{whatN, treeF, viewF, view}
 use Rattle.layout.specs.Sound.{Says, Sound}
 use Rattle.layout.specs.Made.{IsMade, nextOf, IsFull}
-use Rattle.layout.specs.Laws.{of-buffer}
-use Rattle.layout.specs.SoundLaws.{what-blank, blank-node, sound-fit, sound-view}
-use Rattle.layout.specs.CheckLaws.{says-eq, says-lt}
-use Rattle.layout.specs.WalkLaws.{made-seen, seen-made, focus-made}
+use Rattle.layout.specs.laws.Laws.{of-buffer}
+use Rattle.layout.specs.laws.SoundLaws.{what-blank, blank-node, sound-fit, sound-view}
+use Rattle.layout.specs.laws.CheckLaws.{says-eq, says-lt}
+use Rattle.layout.specs.laws.WalkLaws.{made-seen, seen-made, focus-made}
 use Rattle.layout.specs.Events.{eventsTo}
-use Rattle.layout.specs.Reading.{top-up}
+use Rattle.layout.specs.laws.Reading.{top-up}
 use Rattle.promises.specs.Tables as tables
 use Rattle.promises.specs.Tables.{First, RisingFrom}
 use Rattle.promises.specs.Promises.{meaning, at, roomFor, parentAt}

@@ -6,7 +6,7 @@ use Prim.Native.Nat.{ℕ}
 use mathlib.Core.List.{List}
 use lib.IntN.{ℤ}
 use Rattle.rules.specs.Act.{Ask, Child, Goal, Call}
-use Rattle.layout.specs.Same.{Bytes}
+use Rattle.layout.specs.Bytes.{Bytes}
 use Rattle.promises.specs.Promises.{OpenPromise, LookPromise, PeekPromise, FarPromise, HerePromise, SetPromise, BindPromise, WindPromise, GotoPromise, BackPromise}
 use Rattle.demands.specs.NoChoice.{no-choice, no-choice-untraced, open-one}
 use Rattle.kestrelnib.specs.declared.Reply.{Reply}

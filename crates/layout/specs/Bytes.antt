@@ -208,9 +208,12 @@ zeros-list p n e z =
 pub list-zeros : (p : List ℕ) (n : ℕ) → p ≡ replicate n 0 → Zeros p 0 n
 list-zeros p n e i l h = ap (λ (q : List ℕ). getD q i 0) e ∙ getD-replicate n i 0 0 h
 
--- ---- the first n numbers are below 256, as memory holds them
+-- ---- numbers below 256, as memory holds them: all of them (past the end `getD` gives 0), and the first n
+abbrev pub Bytes : List ℕ → Type 0
+Bytes xs = (i : ℕ) → getD xs i 0 < 256
+
 abbrev pub BytesTo : ℕ → List ℕ → Type 0
 BytesTo n p = (i : ℕ) → i < n → getD p i 0 < 256
 
-pub part-bytes : (xs : List ℕ) (a n : ℕ) → ((i : ℕ) → getD xs i 0 < 256) → BytesTo n (part xs a n)
+pub part-bytes : (xs : List ℕ) (a n : ℕ) → Bytes xs → BytesTo n (part xs a n)
 part-bytes xs a n b i h = rw (part-at xs a n i h) (b (a + i))

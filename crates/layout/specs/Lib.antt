@@ -11,19 +11,6 @@ pub mod Opening
 pub mod Writes
 pub mod Made
 pub mod Becomes
-pub mod Laws
-pub mod RecordLaws
-pub mod PlaceLaws
-pub mod SoundLaws
-pub mod MoveLaws
-pub mod Reading
-pub mod OpenLaws
-pub mod GrowLaws
-pub mod CheckLaws
 pub mod Routes
-pub mod WalkLaws
-pub mod Same
-pub mod RouteLaws
-pub mod EventLaws
-pub mod TellLaws
-pub mod FarLaws
+-- what is proved of them
+pub mod laws

@@ -6,7 +6,7 @@ use native.Mathlib.Omega.{arith}
 use lib.ListN.{length, drop}
 use Rattle.layout.specs.Limits.{eventSize}
 use Rattle.layout.specs.Bytes.{part}
-use Rattle.layout.specs.Same.{Bytes}
+use Rattle.layout.specs.Bytes.{Bytes}
 use Rattle.text.specs.declared.line.Op.{Op}
 use Rattle.text.specs.declared.line.Line.{Line}
 use Rattle.text.specs.declared.line.Line.the-variants.{Do}

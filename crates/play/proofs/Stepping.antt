@@ -10,7 +10,7 @@ use lib.ListN.{length, take, drop, length-append, length-drop}
 use lib.Seq.{length-take-le}
 use Rattle.layout.specs.Limits.{eventSize}
 use Rattle.layout.specs.Bytes.{part}
-use Rattle.layout.specs.Same.{Bytes}
+use Rattle.layout.specs.Bytes.{Bytes}
 use Rattle.text.specs.declared.line.Op.{Op}
 use Rattle.text.specs.declared.line.Line.{Line}
 use Rattle.text.specs.declared.line.Line.the-variants.{Do}

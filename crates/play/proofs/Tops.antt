@@ -6,7 +6,7 @@ use native.Mathlib.Omega.{arith}
 use lib.ListN.{length, take, drop, length-append}
 use lib.Seq.{take-at, take-all, length-take-le}
 use Rattle.layout.specs.Limits.{bareSize}
-use Rattle.layout.specs.RecordLaws.{value-length}
+use Rattle.layout.specs.laws.RecordLaws.{value-length}
 use Rattle.text.specs.declared.line.Cell.{Cell}
 use Rattle.text.specs.declared.line.Cell.the-variants.{Value, Unbound}
 use Rattle.text.specs.declared.line.Line.{Line}

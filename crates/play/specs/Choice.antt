@@ -2,7 +2,7 @@
 use mathlib.Core.Path.{_≡_, refl, ap, subst, _∙_}
 use mathlib.Core.List.{List, [], _∷_, _++_}
 use Prim.Native.Nat.{ℕ, _+_}
-use Rattle.layout.specs.Same.{Bytes}
+use Rattle.layout.specs.Bytes.{Bytes}
 use Rattle.promises.specs.Answers.{Numbers}
 use Rattle.demands.specs.NoChoice.{no-choice}
 use Rattle.text.specs.declared.line.Op.{Op}

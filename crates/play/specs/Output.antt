@@ -7,7 +7,7 @@ use lib.ListN.{length}
 use Rattle.layout.specs.Limits.{eventSize, sizeOf}
 use Rattle.layout.specs.Bytes.{part}
 use Rattle.layout.specs.Events.{eventIn}
-use Rattle.layout.specs.Same.{Bytes}
+use Rattle.layout.specs.Bytes.{Bytes}
 use Rattle.promises.specs.Answers.{Numbers}
 use Rattle.promises.specs.Promises.{OpenPromise}
 use Rattle.text.specs.declared.line.Cell.{Cell}

@@ -21,7 +21,7 @@ use Rattle.rules.specs.Demands.{rows-rise}
 use Rattle.layout.specs.Records.{focus}
 use Rattle.layout.specs.Sound.{Sound}
 use Rattle.layout.specs.Becomes.{Kept}
-use Rattle.layout.specs.WalkLaws.{kept-self}
+use Rattle.layout.specs.laws.WalkLaws.{kept-self}
 use Rattle.layout.specs.Made.{nextOf}
 use Rattle.layout.specs.Events.{eventsB, told, eventsTo}
 use Rattle.promises.specs.Answers.{Numbers, refusal}

@@ -34,12 +34,12 @@ use Rattle.layout.specs.Routes.{movesFrom, movesTo}
 use Rattle.layout.specs.Events.{eventsFrom, eventsTo}
 use Rattle.layout.specs.Writes.{setB, bindB, windB, openB}
 use Rattle.layout.specs.Events.{told}
-use Rattle.layout.specs.Laws.{cell-in}
-use Rattle.layout.specs.SoundLaws.{sound-view}
-use Rattle.layout.specs.WalkLaws.{made-seen, focus-made}
-use Rattle.layout.specs.Reading.{binderOf, number-is, FoundAt, top-up, up-is}
-use Rattle.layout.specs.OpenLaws.{opens}
-use Rattle.layout.specs.GrowLaws.{set-becomes, bind-becomes, wind-becomes, can-grow, is-binding, is-wind}
+use Rattle.layout.specs.laws.Laws.{cell-in}
+use Rattle.layout.specs.laws.SoundLaws.{sound-view}
+use Rattle.layout.specs.laws.WalkLaws.{made-seen, focus-made}
+use Rattle.layout.specs.laws.Reading.{binderOf, number-is, FoundAt, top-up, up-is}
+use Rattle.layout.specs.laws.OpenLaws.{opens}
+use Rattle.layout.specs.laws.GrowLaws.{set-becomes, bind-becomes, wind-becomes, can-grow, is-binding, is-wind}
 use Rattle.promises.specs.declared.Answer.the-variants.{Opened, Number, Made, Switched, Refused}
 use Rattle.promises.specs.declared.Refusal.the-variants.{Setup, Damaged, NoVariable, NoEnvironment, Unbound, Full, TraceRoom, Top}
 use Rattle.promises.specs.Answers.{Numbers, refusal, done, seen, numbers}

@@ -4,7 +4,7 @@ ghost use Prim.Native.Nat.{_≤_};
 ghost use Rattle.layout.specs.Sound.{Sound};
 ghost use Rattle.layout.specs.Made.{IsMade};
 ghost use Rattle.layout.specs.Routes.{movesFrom};
-ghost use Rattle.layout.specs.FarLaws.{depthAt, Lifted};
+ghost use Rattle.layout.specs.laws.FarLaws.{depthAt, Lifted};
 use crate::records::depth_of;
 use crate::records::parent_of;
 

@@ -7,7 +7,7 @@ ghost use Rattle.layout.specs.Records.{vars, focus, ProperCell};
 ghost use Rattle.layout.specs.View.{asCell, view};
 ghost use Rattle.layout.specs.Sound.{Sound};
 ghost use Rattle.layout.specs.Made.{IsMade};
-ghost use Rattle.layout.specs.Reading.{binderOf, Ahead, lastBelow, FoundAt};
+ghost use Rattle.layout.specs.laws.Reading.{binderOf, Ahead, lastBelow, FoundAt};
 use crate::kinds::is_out;
 use crate::records::bare_of;
 use crate::records::cell;

@@ -5,11 +5,11 @@ use native.Mathlib.Omega.{arith}
 use mathlib.Core.Option.{Option}
 use Rattle.layout.specs.Records.{focus, nodeOf, parentN}
 use Rattle.layout.specs.Sound.{Sound}
-use Rattle.layout.specs.SoundLaws.{sound-fit}
-use Rattle.layout.specs.CheckLaws.{held, refuted}
+use Rattle.layout.specs.laws.SoundLaws.{sound-fit}
+use Rattle.layout.specs.laws.CheckLaws.{held, refuted}
 use Rattle.layout.specs.Made.{IsMade}
-use Rattle.layout.specs.WalkLaws.{focus-made}
-use Rattle.layout.specs.Reading.{fit-made, up-is, up-made}
+use Rattle.layout.specs.laws.WalkLaws.{focus-made}
+use Rattle.layout.specs.laws.Reading.{fit-made, up-is, up-made}
 use Rattle.promises.specs.Promises.{parentAt}
 use Rattle.store.proofs.Keeps.{back-damaged, back-top, back-switched, parent-at}
 use borrow.Author.Needs.{needs}

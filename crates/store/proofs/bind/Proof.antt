@@ -6,10 +6,10 @@ use Prim.Native.Nat.{_<_}
 use native.Mathlib.Omega.{arith}
 use Rattle.layout.specs.Records.{vars}
 use Rattle.layout.specs.Sound.{Sound}
-use Rattle.layout.specs.SoundLaws.{sound-fit}
-use Rattle.layout.specs.CheckLaws.{held, refuted}
+use Rattle.layout.specs.laws.SoundLaws.{sound-fit}
+use Rattle.layout.specs.laws.CheckLaws.{held, refuted}
 use Rattle.layout.specs.Made.{IsFull}
-use Rattle.layout.specs.CheckLaws.{says-yes, says-no}
+use Rattle.layout.specs.laws.CheckLaws.{says-yes, says-no}
 use Rattle.store.proofs.Keeps.{bind-damaged, bind-unknown, bind-full, bind-done}
 use borrow.Author.Needs.{needs}
 use Rattle.store.proofs.bind.Statement.{statement}

@@ -9,9 +9,9 @@ use Prim.Native.Nat.{ℕ}
 use mathlib.Core.Path.{ap}
 use native.Mathlib.Omega.{arith}
 use Rattle.layout.specs.Writes.{setB, bindB}
-use Rattle.layout.specs.RecordLaws.{node-length}
-use Rattle.layout.specs.SoundLaws.{sound-fit}
-use Rattle.layout.specs.GrowLaws.{grown-fit, grown-vars}
+use Rattle.layout.specs.laws.RecordLaws.{node-length}
+use Rattle.layout.specs.laws.SoundLaws.{sound-fit}
+use Rattle.layout.specs.laws.GrowLaws.{grown-fit, grown-vars}
 use Rattle.promises.specs.declared.Answer.the-variants.{Made}
 use borrow.Author.Needs.{needs}
 use Rattle.store.proofs.bind_at.Statement.{statement}

@@ -4,8 +4,8 @@ use native.Mathlib.Omega.{arith}
 use borrow.Author.Needs.{needs}
 use Rattle.layout.specs.Sound.{Sound}
 use Rattle.layout.specs.Made.{IsMade}
-use Rattle.layout.specs.RouteLaws.{few-between}
-use Rattle.layout.specs.CheckLaws.{held, refuted}
+use Rattle.layout.specs.laws.RouteLaws.{few-between}
+use Rattle.layout.specs.laws.CheckLaws.{held, refuted}
 use Rattle.store.proofs.Keeps.{far-damaged, far-unmade, far-unmade-2, far-done}
 use Rattle.store.proofs.far.Statement.{statement}
 use Rattle.store.proofs.far.Tie as tie

@@ -1,6 +1,6 @@
 -- `goto` keeps its promise: refused row by row, else it is the switch. Assumes nothing.
 use Rattle.layout.specs.Sound.{Sound}
-use Rattle.layout.specs.CheckLaws.{held, refuted}
+use Rattle.layout.specs.laws.CheckLaws.{held, refuted}
 use Rattle.layout.specs.Made.{IsMade}
 use Rattle.store.proofs.Keeps.{goto-damaged, goto-unmade, goto-switched}
 use borrow.Author.Needs.{needs}

@@ -1,8 +1,8 @@
 -- `here` keeps its promise: Damaged where the check refutes soundness, else the focus. Assumes nothing.
 use native.Mathlib.Omega.{arith}
 use Rattle.layout.specs.Sound.{Sound}
-use Rattle.layout.specs.SoundLaws.{sound-fit}
-use Rattle.layout.specs.CheckLaws.{held, refuted}
+use Rattle.layout.specs.laws.SoundLaws.{sound-fit}
+use Rattle.layout.specs.laws.CheckLaws.{held, refuted}
 use Rattle.store.proofs.Keeps.{here-damaged, here-done}
 use borrow.Author.Needs.{needs}
 use Rattle.store.proofs.here.Statement.{statement}

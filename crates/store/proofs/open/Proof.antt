@@ -1,6 +1,6 @@
 -- `open` keeps its promise: Setup where it is not openable, else the bytes of an opened store. Assumes nothing.
 use mathlib.Core.Path.{refl}
-use Rattle.layout.specs.CheckLaws.{held, refuted}
+use Rattle.layout.specs.laws.CheckLaws.{held, refuted}
 use Rattle.promises.specs.Promises.{Openable}
 use Rattle.store.proofs.Keeps.{open-setup, open-done}
 use borrow.Author.Needs.{needs}

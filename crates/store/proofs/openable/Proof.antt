@@ -4,7 +4,7 @@ use mathlib.Core.Logic.{⊎-elim}
 use native.Mathlib.Omega.{arith}
 use borrow.Author.Tests.{ltb-true, ltb-false}
 use Rattle.layout.specs.Records.{ProperCell, topC}
-use Rattle.layout.specs.CheckLaws.{says-map}
+use Rattle.layout.specs.laws.CheckLaws.{says-map}
 use Rattle.promises.specs.Promises.{Openable}
 use borrow.Author.Needs.{needs}
 use Rattle.store.proofs.openable.Statement.{statement}

@@ -3,9 +3,9 @@ use Prim.Native.Nat.{_<_}
 use native.Mathlib.Omega.{arith}
 use Rattle.layout.specs.Records.{vars}
 use Rattle.layout.specs.Sound.{Sound}
-use Rattle.layout.specs.SoundLaws.{sound-fit}
-use Rattle.layout.specs.WalkLaws.{made-room}
-use Rattle.layout.specs.CheckLaws.{held, refuted}
+use Rattle.layout.specs.laws.SoundLaws.{sound-fit}
+use Rattle.layout.specs.laws.WalkLaws.{made-room}
+use Rattle.layout.specs.laws.CheckLaws.{held, refuted}
 use Rattle.layout.specs.Made.{IsMade}
 use Rattle.store.proofs.Keeps.{peek-damaged, peek-unknown, peek-unmade, peek-shown}
 use borrow.Author.Needs.{needs}

@@ -6,8 +6,8 @@ use Prim.Native.Nat.{_<_}
 use native.Mathlib.Omega.{arith}
 use Rattle.layout.specs.Records.{vars}
 use Rattle.layout.specs.Sound.{Sound}
-use Rattle.layout.specs.SoundLaws.{sound-fit}
-use Rattle.layout.specs.CheckLaws.{held, refuted}
+use Rattle.layout.specs.laws.SoundLaws.{sound-fit}
+use Rattle.layout.specs.laws.CheckLaws.{held, refuted}
 use Rattle.layout.specs.Records.{bareC, cellOf}
 use Rattle.store.proofs.Keeps.{set-damaged, set-unknown, set-unbound, set-done-keeps}
 use borrow.Author.Needs.{needs}

@@ -7,7 +7,7 @@ use mir.ValLaws.{toZ-ofZ}
 use Rattle.layout.specs.Records.{withCell, cellOf, putC, valueC}
 use mathlib.Core.Path.{ap}
 use Rattle.layout.specs.Writes.{setB}
-use Rattle.layout.specs.SoundLaws.{sound-fit}
+use Rattle.layout.specs.laws.SoundLaws.{sound-fit}
 use Rattle.promises.specs.declared.Answer.the-variants.{Number}
 use borrow.Author.Needs.{needs}
 use Rattle.store.proofs.set_at.Statement.{statement}

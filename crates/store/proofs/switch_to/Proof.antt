@@ -1,8 +1,8 @@
 -- `switch_to` keeps what goto and back share: the survey counts what tell writes and what the walk moves. Assumes nothing.
 use native.Mathlib.Omega.{arith}
-use Rattle.layout.specs.SoundLaws.{sound-fit}
-use Rattle.layout.specs.WalkLaws.{made-room}
-use Rattle.layout.specs.RouteLaws.{few-moves, few-events}
+use Rattle.layout.specs.laws.SoundLaws.{sound-fit}
+use Rattle.layout.specs.laws.WalkLaws.{made-room}
+use Rattle.layout.specs.laws.RouteLaws.{few-moves, few-events}
 use Rattle.promises.specs.Promises.{roomFor}
 use Rattle.store.proofs.Keeps.{switch-no-room, switch-done}
 use borrow.Author.Needs.{needs}

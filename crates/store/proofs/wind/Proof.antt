@@ -2,7 +2,7 @@
 use native.Mathlib.Omega.{arith}
 use Rattle.layout.specs.Sound.{Sound}
 use Rattle.layout.specs.Made.{IsFull}
-use Rattle.layout.specs.CheckLaws.{held, refuted, says-yes, says-no}
+use Rattle.layout.specs.laws.CheckLaws.{held, refuted, says-yes, says-no}
 use Rattle.promises.specs.Promises.{roomFor}
 use Rattle.store.proofs.Keeps.{wind-damaged, wind-full, wind-no-room, wind-done}
 use borrow.Author.Needs.{needs}

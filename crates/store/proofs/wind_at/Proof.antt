@@ -6,7 +6,7 @@ use Rattle.layout.specs.Bytes.{splice}
 use Rattle.layout.specs.Records.{focus}
 use Rattle.layout.specs.Writes.{windB}
 use Rattle.layout.specs.Events.{eventD}
-use Rattle.layout.specs.EventLaws.{told-first, told-entered}
+use Rattle.layout.specs.laws.EventLaws.{told-first, told-entered}
 use Rattle.promises.specs.declared.Answer.the-variants.{Made}
 use Rattle.promises.specs.Promises.{entering}
 use borrow.Author.Needs.{needs}

@@ -3,11 +3,11 @@ use mathlib.Core.Path.{_≡_, sym, subst, _∙_}
 use Prim.Native.Nat.{ℕ, _+_, _-_}
 use native.Mathlib.Omega.{arith}
 use borrow.Author.Needs.{needs}
-use Rattle.layout.specs.SoundLaws.{sound-fit}
-use Rattle.layout.specs.WalkLaws.{made-room}
+use Rattle.layout.specs.laws.SoundLaws.{sound-fit}
+use Rattle.layout.specs.laws.WalkLaws.{made-room}
 use Rattle.layout.specs.Routes.{movesFrom}
-use Rattle.layout.specs.RouteLaws.{few-between}
-use Rattle.layout.specs.FarLaws.{depthAt, Lifted, depth-is, moves-sym, from-top, to-top, lifted-apart}
+use Rattle.layout.specs.laws.RouteLaws.{few-between}
+use Rattle.layout.specs.laws.FarLaws.{depthAt, Lifted, depth-is, moves-sym, from-top, to-top, lifted-apart}
 use Rattle.store.proofs.apart.between.Statement.{statement}
 use Rattle.store.proofs.apart.between.Tie as tie
 

@@ -4,9 +4,9 @@ use mathlib.Core.Path.{_≡_, sym, ap, subst, _∙_}
 use Prim.Native.Nat.{ℕ, _<_, _≤_}
 use native.Mathlib.Omega.{arith}
 use Rattle.layout.specs.Records.{parentN, nodeOf}
-use Rattle.layout.specs.SoundLaws.{sound-fit}
-use Rattle.layout.specs.WalkLaws.{made-room}
-use Rattle.layout.specs.FarLaws.{depthAt, Lifted, depth-is, lifted-start, lifted-up}
+use Rattle.layout.specs.laws.SoundLaws.{sound-fit}
+use Rattle.layout.specs.laws.WalkLaws.{made-room}
+use Rattle.layout.specs.laws.FarLaws.{depthAt, Lifted, depth-is, lifted-start, lifted-up}
 use Rattle.store.proofs.apart.lift.Statement.{statement}
 use Rattle.store.proofs.apart.lift.Tie as tie
 

@@ -3,11 +3,11 @@
 use Prim.Native.Nat.{_+_, _<_}
 use native.Mathlib.Omega.{arith}
 use Rattle.layout.specs.Records.{parentN, nodeOf}
-use Rattle.layout.specs.SoundLaws.{sound-fit}
-use Rattle.layout.specs.WalkLaws.{made-room}
+use Rattle.layout.specs.laws.SoundLaws.{sound-fit}
+use Rattle.layout.specs.laws.WalkLaws.{made-room}
 use Rattle.layout.specs.Routes.{movesFrom}
-use Rattle.layout.specs.RouteLaws.{few-between}
-use Rattle.layout.specs.FarLaws.{Nearing, nearing-start, nearing-up, nearing-end}
+use Rattle.layout.specs.laws.RouteLaws.{few-between}
+use Rattle.layout.specs.laws.FarLaws.{Nearing, nearing-start, nearing-up, nearing-end}
 use Rattle.store.proofs.apart.passed.Statement.{statement}
 use Rattle.store.proofs.apart.passed.Tie as tie
 

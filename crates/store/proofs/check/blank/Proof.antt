@@ -10,7 +10,7 @@ use borrow.Author.Tests.{eqb-true, eqb-false, not-true, not-false}
 use Rattle.layout.specs.Limits.{bareSize}
 use Rattle.layout.specs.Bytes.{by-tab}
 use Rattle.layout.specs.Records.{blankCell}
-use Rattle.layout.specs.CheckLaws.{says-eq, says-map}
+use Rattle.layout.specs.laws.CheckLaws.{says-eq, says-map}
 use Rattle.store.proofs.check.blank.Statement.{statement}
 use Rattle.store.proofs.check.blank.Tie as tie
 

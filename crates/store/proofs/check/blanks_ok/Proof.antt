@@ -7,10 +7,10 @@ use Rattle.layout.specs.Limits.{nodeAt}
 use Rattle.layout.specs.Records.{vars, room, made}
 use Rattle.layout.specs.Sound.{Says}
 use Rattle.layout.specs.Fields.{fieldsOf}
-use Rattle.layout.specs.SoundLaws.{headed-fit}
+use Rattle.layout.specs.laws.SoundLaws.{headed-fit}
 use Rattle.layout.specs.Bytes.{Zeros}
-use Rattle.layout.specs.PlaceLaws.{zeros-blanks, blanks-zeros}
-use Rattle.layout.specs.CheckLaws.{says-map, lent-zeros}
+use Rattle.layout.specs.laws.PlaceLaws.{zeros-blanks, blanks-zeros}
+use Rattle.layout.specs.laws.CheckLaws.{says-map, lent-zeros}
 use Rattle.store.proofs.check.blanks_ok.Statement.{statement}
 use Rattle.store.proofs.check.blanks_ok.Tie as tie
 

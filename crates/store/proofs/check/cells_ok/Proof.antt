@@ -7,9 +7,9 @@ use borrow.Author.Needs.{needs}
 use Rattle.layout.specs.Sound.{Says}
 use Rattle.layout.specs.Records.{ProperCell, bareC}
 use Rattle.layout.specs.Fields.{fieldsOf, cells}
-use Rattle.layout.specs.SoundLaws.{headed-fit}
-use Rattle.layout.specs.Laws.{cell-in}
-use Rattle.layout.specs.CheckLaws.{held, refuted, below-more}
+use Rattle.layout.specs.laws.SoundLaws.{headed-fit}
+use Rattle.layout.specs.laws.Laws.{cell-in}
+use Rattle.layout.specs.laws.CheckLaws.{held, refuted, below-more}
 use Rattle.store.proofs.check.cells_ok.Statement.{statement}
 use Rattle.store.proofs.check.cells_ok.Tie as tie
 

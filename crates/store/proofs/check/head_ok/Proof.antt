@@ -6,7 +6,7 @@ use lib.Dec.{ltb}
 use borrow.Author.Tests.{ltb-true, ltb-false}
 use Rattle.layout.specs.Fields.{fieldsOf}
 use Rattle.layout.specs.Sound.{Headed}
-use Rattle.layout.specs.CheckLaws.{says-map, says-lt}
+use Rattle.layout.specs.laws.CheckLaws.{says-map, says-lt}
 use borrow.Author.Needs.{needs}
 use Rattle.store.proofs.check.head_ok.Statement.{statement}
 use Rattle.store.proofs.check.head_ok.Tie as tie

@@ -10,9 +10,9 @@ use Rattle.layout.specs.Records.{focus, kindN, depthN}
 use Rattle.layout.specs.Kinds.{isOut}
 use Rattle.layout.specs.Fields.{fieldsOf, nodes}
 use Rattle.layout.specs.Sound.{Headed}
-use Rattle.layout.specs.SoundLaws.{headed-fit}
-use Rattle.layout.specs.Laws.{node-in, OfBuffer, of-buffer}
-use Rattle.layout.specs.CheckLaws.{says-map, says-eq, modes-right, ins-focus}
+use Rattle.layout.specs.laws.SoundLaws.{headed-fit}
+use Rattle.layout.specs.laws.Laws.{node-in, OfBuffer, of-buffer}
+use Rattle.layout.specs.laws.CheckLaws.{says-map, says-eq, modes-right, ins-focus}
 use Rattle.store.proofs.check.ins_ok.Statement.{statement}
 use Rattle.store.proofs.check.ins_ok.Tie as tie
 

@@ -10,8 +10,8 @@ use Rattle.layout.specs.Records.{ProperCell, blankCell, kindN, parentN, varN, p
 use Rattle.layout.specs.Kinds.{IsBinding, IsWind, not-both, node-low, node-high}
 use Rattle.layout.specs.Fields.{fieldsOf, nodes}
 use Rattle.layout.specs.Sound.{Says, NodeOk, depthAbove}
-use Rattle.layout.specs.SoundLaws.{headed-fit}
-use Rattle.layout.specs.Laws.{node-in}
+use Rattle.layout.specs.laws.SoundLaws.{headed-fit}
+use Rattle.layout.specs.laws.Laws.{node-in}
 use Rattle.store.proofs.check.node_ok.Statement.{statement}
 use Rattle.store.proofs.check.node_ok.Tie as tie
 

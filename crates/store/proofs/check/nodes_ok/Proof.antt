@@ -11,9 +11,9 @@ use Rattle.layout.specs.Sound.{Says, NodeOk, depthAbove}
 use Rattle.layout.specs.Records.{vars, made, kindN}
 use Rattle.layout.specs.Kinds.{isIn}
 use Rattle.layout.specs.Fields.{fieldsOf, nodes}
-use Rattle.layout.specs.SoundLaws.{headed-fit}
-use Rattle.layout.specs.Laws.{node-in}
-use Rattle.layout.specs.CheckLaws.{held, refuted, below-more, modeF, Counted, counted-none, counted-in, counted-out, Rises}
+use Rattle.layout.specs.laws.SoundLaws.{headed-fit}
+use Rattle.layout.specs.laws.Laws.{node-in}
+use Rattle.layout.specs.laws.CheckLaws.{held, refuted, below-more, modeF, Counted, counted-none, counted-in, counted-out, Rises}
 use Rattle.store.proofs.check.nodes_ok.Statement.{statement}
 use Rattle.store.proofs.check.nodes_ok.Tie as tie
 

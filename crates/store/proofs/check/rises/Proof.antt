@@ -10,8 +10,8 @@ use Rattle.layout.specs.Records.{kindN, parentN}
 use Rattle.layout.specs.Kinds.{isIn, isOut}
 use Rattle.layout.specs.Fields.{fieldsOf, nodes}
 use Rattle.layout.specs.Sound.{Says}
-use Rattle.layout.specs.SoundLaws.{headed-fit}
-use Rattle.layout.specs.Laws.{node-in}
+use Rattle.layout.specs.laws.SoundLaws.{headed-fit}
+use Rattle.layout.specs.laws.Laws.{node-in}
 use Rattle.store.proofs.check.rises.Statement.{statement}
 use Rattle.store.proofs.check.rises.Tie as tie
 

@@ -6,9 +6,9 @@ use Rattle.rules.specs.Basic.{clash}
 use Rattle.layout.specs.Sound.{Shape}
 use Rattle.layout.specs.Records.{topNode}
 use Rattle.layout.specs.Fields.{fieldsOf}
-use Rattle.layout.specs.SoundLaws.{InnersOk, shape-inners, shape-blanks, shape-by-numbers, headed-fit}
-use Rattle.layout.specs.Laws.{node-in}
-use Rattle.layout.specs.CheckLaws.{held, refuted, says-map, counted-all}
+use Rattle.layout.specs.laws.SoundLaws.{InnersOk, shape-inners, shape-blanks, shape-by-numbers, headed-fit}
+use Rattle.layout.specs.laws.Laws.{node-in}
+use Rattle.layout.specs.laws.CheckLaws.{held, refuted, says-map, counted-all}
 use Rattle.store.proofs.check.shape_ok.Statement.{statement}
 use Rattle.store.proofs.check.shape_ok.Tie as tie
 

@@ -3,8 +3,8 @@ use borrow.Author.Tests.{not-false}
 use borrow.Author.Needs.{needs}
 use Rattle.layout.specs.Sound.{Ins, Sound}
 use Rattle.layout.specs.Fields.{fieldsOf}
-use Rattle.layout.specs.SoundLaws.{sound-headed}
-use Rattle.layout.specs.CheckLaws.{held, refuted, says-map, sound-rises}
+use Rattle.layout.specs.laws.SoundLaws.{sound-headed}
+use Rattle.layout.specs.laws.CheckLaws.{held, refuted, says-map, sound-rises}
 use Rattle.store.proofs.check.sound.Statement.{statement}
 use Rattle.store.proofs.check.sound.Tie as tie
 

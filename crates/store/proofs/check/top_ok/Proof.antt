@@ -4,8 +4,8 @@ use Prim.Native.Nat.{ℕ}
 use mathlib.Core.List.{List}
 use lib.ListN.{length, replicate}
 use Rattle.layout.specs.Sound.{Says}
-use Rattle.layout.specs.RecordLaws.{top-bytes, bytes-top}
-use Rattle.layout.specs.CheckLaws.{says-map}
+use Rattle.layout.specs.laws.RecordLaws.{top-bytes, bytes-top}
+use Rattle.layout.specs.laws.CheckLaws.{says-map}
 use borrow.Author.Needs.{needs}
 use Rattle.store.proofs.check.top_ok.Statement.{statement}
 use Rattle.store.proofs.check.top_ok.Tie as tie

@@ -5,7 +5,7 @@ use Prim.Native.Nat.{ℕ, _-_, _<_, _≤_}
 use native.Mathlib.Omega.{arith}
 use Rattle.layout.specs.Sound.{Says}
 use Rattle.layout.specs.Records.{ProperCell, topC}
-use Rattle.layout.specs.CheckLaws.{held, refuted, below-more}
+use Rattle.layout.specs.laws.CheckLaws.{held, refuted, below-more}
 use borrow.Author.Needs.{needs}
 use Rattle.store.proofs.check.tops_ok.Statement.{statement}
 use Rattle.store.proofs.check.tops_ok.Tie as tie

@@ -8,7 +8,7 @@ use lib.ListN.{length}
 use borrow.Author.Needs.{needs}
 use Rattle.layout.specs.Sound.{Says}
 use Rattle.layout.specs.Bytes.{Zeros, zeros-list, list-zeros}
-use Rattle.layout.specs.CheckLaws.{says-map, zeros-on, zeros-off}
+use Rattle.layout.specs.laws.CheckLaws.{says-map, zeros-on, zeros-off}
 use Rattle.store.proofs.check.zeros.Statement.{statement}
 use Rattle.store.proofs.check.zeros.Tie as tie
 

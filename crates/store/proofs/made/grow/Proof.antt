@@ -5,9 +5,9 @@ use native.Mathlib.Omega.{arith}
 use Rattle.layout.specs.Records.{withFocus, withMade, withNode, nodeB}
 use Rattle.layout.specs.Made.{nextOf}
 use Rattle.layout.specs.Writes.{depthUnder, growB}
-use Rattle.layout.specs.SoundLaws.{sound-fit}
-use Rattle.layout.specs.WalkLaws.{made-room, focus-made}
-use Rattle.layout.specs.GrowLaws.{space-left, under-is, under-small}
+use Rattle.layout.specs.laws.SoundLaws.{sound-fit}
+use Rattle.layout.specs.laws.WalkLaws.{made-room, focus-made}
+use Rattle.layout.specs.laws.GrowLaws.{space-left, under-is, under-small}
 use borrow.Author.Needs.{needs}
 use Rattle.store.proofs.made.grow.Statement.{statement}
 use Rattle.store.proofs.made.grow.Tie as tie

@@ -1,5 +1,5 @@
 use Rattle.layout.specs.Made.{IsFull}
-use Rattle.layout.specs.CheckLaws.{says-eq}
+use Rattle.layout.specs.laws.CheckLaws.{says-eq}
 use borrow.Author.Needs.{needs}
 use Rattle.store.proofs.made.is_full.Statement.{statement}
 use Rattle.store.proofs.made.is_full.Tie as tie

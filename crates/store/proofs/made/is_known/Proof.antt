@@ -1,4 +1,4 @@
-use Rattle.layout.specs.CheckLaws.{says-lt}
+use Rattle.layout.specs.laws.CheckLaws.{says-lt}
 use borrow.Author.Needs.{needs}
 use Rattle.store.proofs.made.is_known.Statement.{statement}
 use Rattle.store.proofs.made.is_known.Tie as tie

@@ -1,5 +1,5 @@
 use Rattle.layout.specs.Made.{IsMade}
-use Rattle.layout.specs.CheckLaws.{says-lt}
+use Rattle.layout.specs.laws.CheckLaws.{says-lt}
 use borrow.Author.Needs.{needs}
 use Rattle.store.proofs.made.is_made.Statement.{statement}
 use Rattle.store.proofs.made.is_made.Tie as tie

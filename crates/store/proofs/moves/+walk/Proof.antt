@@ -9,9 +9,9 @@ use borrow.Fn.Kinds.{In}
 use borrow.Fn.PlainCycle.{Measures, is, falls, and}
 use Rattle.layout.specs.Records.{focus, nodeOf, kindN}
 use Rattle.layout.specs.Kinds.{isOut}
-use Rattle.layout.specs.SoundLaws.{sound-fit}
+use Rattle.layout.specs.laws.SoundLaws.{sound-fit}
 use Rattle.layout.specs.Routes.{movesTo}
-use Rattle.layout.specs.WalkLaws.{made-room, way-here, in-turns, Nearer, outward, inward, near-sound, near-made, near-falls, near-here, near-turns, near-entered}
+use Rattle.layout.specs.laws.WalkLaws.{made-room, way-here, in-turns, Nearer, outward, inward, near-sound, near-made, near-falls, near-here, near-turns, near-entered}
 use Rattle.store.proofs.moves.walk.Reads as walk
 use Rattle.store.proofs.moves.walk.Kinds as walk-kinds
 use Rattle.store.proofs.moves.+walk.Lts-walk as lts

@@ -6,7 +6,7 @@ use native.Mathlib.Omega.{arith}
 use borrow.Author.Needs.{needs}
 use Rattle.layout.specs.Records.{cellOf, withCell, bareC, putC, nodeOf, withNode, swapN}
 use Rattle.layout.specs.Writes.{swapB}
-use Rattle.layout.specs.WalkLaws.{swapped-fits}
+use Rattle.layout.specs.laws.WalkLaws.{swapped-fits}
 use Rattle.store.proofs.moves.exchange.Statement.{statement}
 use Rattle.store.proofs.moves.exchange.Tie as tie
 

@@ -6,7 +6,7 @@ use borrow.Author.Needs.{needs}
 use Rattle.layout.specs.Records.{focus, withFocus, nodeOf, kindN, parentN}
 use Rattle.layout.specs.Kinds.{leftKind, node-low}
 use Rattle.layout.specs.Writes.{turnB, moveB}
-use Rattle.layout.specs.WalkLaws.{Turned, turned}
+use Rattle.layout.specs.laws.WalkLaws.{Turned, turned}
 use Rattle.store.proofs.moves.leave.Statement.{statement}
 use Rattle.store.proofs.moves.leave.Tie as tie
 

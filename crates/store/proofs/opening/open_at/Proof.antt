@@ -8,7 +8,7 @@ use Rattle.layout.specs.Limits.{nodeSize, cellAt}
 use Rattle.layout.specs.Bytes.{splice}
 use Rattle.layout.specs.Records.{withCells, withNodes}
 use Rattle.layout.specs.Writes.{cellsB, nodesB}
-use Rattle.layout.specs.PlaceLaws.{written}
+use Rattle.layout.specs.laws.PlaceLaws.{written}
 use borrow.Author.Needs.{needs}
 use Rattle.store.proofs.opening.open_at.Statement.{statement}
 use Rattle.store.proofs.opening.open_at.Tie as tie

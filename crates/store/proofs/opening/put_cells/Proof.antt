@@ -5,7 +5,7 @@ use native.Mathlib.Omega.{arith}
 use lib.ListN.{length}
 use Rattle.layout.specs.Records.{withCell, withCells, cellB}
 use Rattle.layout.specs.Writes.{cellsB}
-use Rattle.layout.specs.PlaceLaws.{cells-none, cells-more}
+use Rattle.layout.specs.laws.PlaceLaws.{cells-none, cells-more}
 use borrow.Author.Needs.{needs}
 use Rattle.store.proofs.opening.put_cells.Statement.{statement}
 use Rattle.store.proofs.opening.put_cells.Tie as tie

@@ -3,7 +3,7 @@ use mathlib.Core.Path.{ap, _∙_}
 use mathlib.Core.List.{List}
 use Prim.Native.Nat.{ℕ}
 use Rattle.layout.specs.Records.{withHead}
-use Rattle.layout.specs.PlaceLaws.{header-put}
+use Rattle.layout.specs.laws.PlaceLaws.{header-put}
 use borrow.Author.Needs.{needs}
 use Rattle.store.proofs.opening.put_head.Statement.{statement}
 use Rattle.store.proofs.opening.put_head.Tie as tie

@@ -1,5 +1,5 @@
 -- By the kind: a binding binds its variable, and no other node binds any.
-use Rattle.layout.specs.Reading.{fit-made, binds-yes, binds-low, binds-high}
+use Rattle.layout.specs.laws.Reading.{fit-made, binds-yes, binds-low, binds-high}
 use mathlib.Core.Path.{sym, ap, _∙_}
 use native.Mathlib.Omega.{arith}
 use lib.Dec.{eqb}

@@ -2,8 +2,8 @@
 use Rattle.layout.specs.Records.{bareC, storedN}
 use Rattle.layout.specs.Kinds.{isOut}
 use Rattle.layout.specs.View.{asCell}
-use Rattle.layout.specs.SoundLaws.{sound-fit}
-use Rattle.layout.specs.Reading.{fit-made, stored-proper, cell-proper, not-out-ahead, peek-out, peek-some, peek-none}
+use Rattle.layout.specs.laws.SoundLaws.{sound-fit}
+use Rattle.layout.specs.laws.Reading.{fit-made, stored-proper, cell-proper, not-out-ahead, peek-out, peek-some, peek-none}
 use Prim.Native.Nat.{ℕ}
 use mathlib.Core.Bool.{Bool}
 use mathlib.Core.Path.{_≡_, sym, ap, _∙_}

@@ -3,7 +3,7 @@ use Rattle.rules.specs.Tree.{path}
 use Rattle.rules.specs.Calls.{deciderAt}
 use Rattle.layout.specs.View.{view}
 use Rattle.layout.specs.Made.{IsMade}
-use Rattle.layout.specs.Reading.{binderOf, fit-made, top-made, up-made, path-falls, binder-inner, decider-top, decider-here, decider-up}
+use Rattle.layout.specs.laws.Reading.{binderOf, fit-made, top-made, up-made, path-falls, binder-inner, decider-top, decider-here, decider-up}
 use mathlib.Core.Path.{_≡_, refl, sym, _∙_}
 use native.Mathlib.Omega.{arith}
 use lib.ListN.{length}

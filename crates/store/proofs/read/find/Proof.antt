@@ -1,5 +1,5 @@
 -- What is found is the decider and its own value as peek reads it, which is the deep rule's value.
-use Rattle.layout.specs.Reading.{found-at}
+use Rattle.layout.specs.laws.Reading.{found-at}
 use borrow.Author.Needs.{needs}
 use Rattle.store.proofs.read.find.Statement.{statement}
 use Rattle.store.proofs.read.find.Tie as tie

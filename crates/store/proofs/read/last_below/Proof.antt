@@ -1,8 +1,8 @@
 -- At n the climb that is left, with what was seen, gives what the whole climb gives. Each turn is one node up the path.
 use Rattle.rules.specs.Tree.{path}
 use Rattle.layout.specs.View.{view}
-use Rattle.layout.specs.SoundLaws.{sound-fit}
-use Rattle.layout.specs.Reading.{Seeks, fit-made, path-falls, binder-inner, seeks-start, seeks-inner, seeks-up, seeks-done}
+use Rattle.layout.specs.laws.SoundLaws.{sound-fit}
+use Rattle.layout.specs.laws.Reading.{Seeks, fit-made, path-falls, binder-inner, seeks-start, seeks-inner, seeks-up, seeks-done}
 use mathlib.Core.Path.{sym}
 use mathlib.Core.Logic.{⊎-elim}
 use native.Mathlib.Omega.{arith}

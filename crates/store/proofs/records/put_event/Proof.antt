@@ -5,7 +5,7 @@ use Prim.Native.Nat.{ℕ}
 use native.Mathlib.Omega.{arith}
 use lib.ListN.{length-set}
 use Rattle.layout.specs.Bytes.{put16}
-use Rattle.layout.specs.EventLaws.{event-put}
+use Rattle.layout.specs.laws.EventLaws.{event-put}
 use Rattle.store.proofs.records.put_event.Statement.{statement}
 use Rattle.store.proofs.records.put_event.Tie as tie
 

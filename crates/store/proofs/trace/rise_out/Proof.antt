@@ -6,10 +6,10 @@ use native.Mathlib.Omega.{arith}
 use borrow.Author.Needs.{needs}
 use Rattle.layout.specs.Records.{nodeOf, kindN}
 use Rattle.layout.specs.Kinds.{isOut}
-use Rattle.layout.specs.SoundLaws.{sound-fit}
-use Rattle.layout.specs.WalkLaws.{made-room}
+use Rattle.layout.specs.laws.SoundLaws.{sound-fit}
+use Rattle.layout.specs.laws.WalkLaws.{made-room}
 use Rattle.layout.specs.Routes.{movesTo, Climbing}
-use Rattle.layout.specs.RouteLaws.{few-moves, few-events, climbing-start, climbing-up, climbing-less, climbing-end}
+use Rattle.layout.specs.laws.RouteLaws.{few-moves, few-events, climbing-start, climbing-up, climbing-less, climbing-end}
 use Rattle.store.proofs.trace.rise_out.Statement.{statement}
 use Rattle.store.proofs.trace.rise_out.Tie as tie
 

@@ -1,10 +1,10 @@
 -- `rise_to` meets its contract. The loop's invariant: what lies behind the climb and what remains up to the meeting point are
 -- together what the focus has. The measure is the distance that remains.
 use native.Mathlib.Omega.{arith}
-use Rattle.layout.specs.SoundLaws.{sound-fit}
-use Rattle.layout.specs.WalkLaws.{made-room}
+use Rattle.layout.specs.laws.SoundLaws.{sound-fit}
+use Rattle.layout.specs.laws.WalkLaws.{made-room}
 use Rattle.layout.specs.Routes.{movesFrom}
-use Rattle.layout.specs.RouteLaws.{Rising, few-moves, few-events, rising-start, rising-up, rising-less, rising-end}
+use Rattle.layout.specs.laws.RouteLaws.{Rising, few-moves, few-events, rising-start, rising-up, rising-less, rising-end}
 use Rattle.store.proofs.trace.rise_to.Statement.{statement}
 use Rattle.store.proofs.trace.rise_to.Tie as tie
 

@@ -1,7 +1,7 @@
 -- `survey` meets its contract: the two climbs together have the switch's moves and events.
 use native.Mathlib.Omega.{arith}
 use borrow.Author.Needs.{needs}
-use Rattle.layout.specs.RouteLaws.{meeting-on-way, few-moves, few-events}
+use Rattle.layout.specs.laws.RouteLaws.{meeting-on-way, few-moves, few-events}
 use Rattle.store.proofs.trace.survey.Statement.{statement}
 use Rattle.store.proofs.trace.survey.Tie as tie
 

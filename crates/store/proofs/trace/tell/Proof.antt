@@ -1,8 +1,8 @@
 -- `tell` meets its contract: the entering events, and the leaving ones before them, are the switch's.
 use native.Mathlib.Omega.{arith}
 use borrow.Author.Needs.{needs}
-use Rattle.layout.specs.RouteLaws.{meeting-on-way}
-use Rattle.layout.specs.TellLaws.{rest-fits, all-told}
+use Rattle.layout.specs.laws.RouteLaws.{meeting-on-way}
+use Rattle.layout.specs.laws.TellLaws.{rest-fits, all-told}
 use Rattle.store.proofs.trace.tell.Statement.{statement}
 use Rattle.store.proofs.trace.tell.Tie as tie
 

@@ -7,10 +7,10 @@ use lib.ListN.{length}
 use Rattle.layout.specs.Routes.{enteredEvents}
 use Rattle.layout.specs.Records.{nodeOf, kindN}
 use Rattle.layout.specs.Kinds.{IsWind}
-use Rattle.layout.specs.SoundLaws.{sound-fit}
-use Rattle.layout.specs.WalkLaws.{made-room}
-use Rattle.layout.specs.TellLaws.{entered-one, entered-told, entered-kept}
-use Rattle.layout.specs.CheckLaws.{says-yes, says-no}
+use Rattle.layout.specs.laws.SoundLaws.{sound-fit}
+use Rattle.layout.specs.laws.WalkLaws.{made-room}
+use Rattle.layout.specs.laws.TellLaws.{entered-one, entered-told, entered-kept}
+use Rattle.layout.specs.laws.CheckLaws.{says-yes, says-no}
 use Rattle.store.proofs.trace.tell_entered.Statement.{statement}
 use Rattle.store.proofs.trace.tell_entered.Tie as tie
 

@@ -1,10 +1,10 @@
 -- `tell_entering` meets its contract. The loop's invariant: the events to be told are those that remain up to here, and then
 -- those told so far. The measure is the distance that remains.
 use mathlib.Core.Path.{refl, sym, _∙_}
-use Rattle.layout.specs.SoundLaws.{sound-fit}
-use Rattle.layout.specs.WalkLaws.{made-room}
+use Rattle.layout.specs.laws.SoundLaws.{sound-fit}
+use Rattle.layout.specs.laws.WalkLaws.{made-room}
 use Rattle.layout.specs.Routes.{movesTo, Entering}
-use Rattle.layout.specs.TellLaws.{entering-start, entering-length, entering-less, entering-room, entering-step, entering-end}
+use Rattle.layout.specs.laws.TellLaws.{entering-start, entering-length, entering-less, entering-room, entering-step, entering-end}
 use Rattle.store.proofs.trace.tell_entering.Statement.{statement}
 use Rattle.store.proofs.trace.tell_entering.Tie as tie
 

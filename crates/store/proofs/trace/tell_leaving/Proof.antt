@@ -2,10 +2,10 @@
 -- meeting point, are together the events to be told. The measure is the distance that remains.
 use mathlib.Core.Path.{refl}
 use native.Mathlib.Omega.{arith}
-use Rattle.layout.specs.SoundLaws.{sound-fit}
-use Rattle.layout.specs.WalkLaws.{made-room}
+use Rattle.layout.specs.laws.SoundLaws.{sound-fit}
+use Rattle.layout.specs.laws.WalkLaws.{made-room}
 use Rattle.layout.specs.Routes.{movesFrom}
-use Rattle.layout.specs.TellLaws.{Leaving, leaving-start, leaving-length, leaving-less, leaving-room, leaving-step, leaving-end}
+use Rattle.layout.specs.laws.TellLaws.{Leaving, leaving-start, leaving-length, leaving-less, leaving-room, leaving-step, leaving-end}
 use Rattle.store.proofs.trace.tell_leaving.Statement.{statement}
 use Rattle.store.proofs.trace.tell_leaving.Tie as tie
 

@@ -4,9 +4,9 @@ use native.Mathlib.Omega.{arith}
 use borrow.Author.Needs.{needs}
 use Rattle.rules.specs.Moves.{isWind}
 use Rattle.layout.specs.Records.{nodeOf}
-use Rattle.layout.specs.SoundLaws.{what-wind}
-use Rattle.layout.specs.RouteLaws.{plain}
-use Rattle.layout.specs.CheckLaws.{says-yes, says-no}
+use Rattle.layout.specs.laws.SoundLaws.{what-wind}
+use Rattle.layout.specs.laws.RouteLaws.{plain}
+use Rattle.layout.specs.laws.CheckLaws.{says-yes, says-no}
 use Rattle.store.proofs.trace.wind_bit.Statement.{statement}
 use Rattle.store.proofs.trace.wind_bit.Tie as tie
 

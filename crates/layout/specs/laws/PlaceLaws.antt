@@ -13,8 +13,8 @@ use Rattle.layout.specs.Bytes.{part, splice, u16, put16, part-length, pa
 use Rattle.layout.specs.Records.{headOf, headN, withHead, headB, vars, room, made, focus, withHeader, cellOf, withCell, withCells, cellB, topC, nodeOf, withNodes, topNode, blankNode}
 use Rattle.layout.specs.Fields.{cells, nodes, Fit}
 use Rattle.layout.specs.Writes.{cellsB, nodesB, openB}
-use Rattle.layout.specs.RecordLaws.{head-put, head-again, cell-length}
-use Rattle.layout.specs.Laws.{node-in, cell-in}
+use Rattle.layout.specs.laws.RecordLaws.{head-put, head-again, cell-length}
+use Rattle.layout.specs.laws.Laws.{node-in, cell-in}
 
 -- ---- the header's numbers, written one after the other
 number-put : (s h : List ℕ) (k v : ℕ) → length h ≡ header → header ≤ length s → withHead (withHeader s h) k v ≡ withHeader s (put16 h (2 * k) v)

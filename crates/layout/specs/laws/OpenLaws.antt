@@ -24,10 +24,10 @@ use Rattle.layout.specs.View.{asCell, whatN, upN, treeF, viewF, view}
 use Rattle.layout.specs.Sound.{Shape, Sound}
 use Rattle.layout.specs.Made.{IsMade}
 use Rattle.layout.specs.Writes.{openB}
-use Rattle.layout.specs.Laws.{node-in, node-past, cell-in, cell-past, of-buffer}
-use Rattle.layout.specs.RecordLaws.{bare-length, bare-whole, as-blank}
-use Rattle.layout.specs.PlaceLaws.{opened-vars, opened-room, opened-made, opened-focus, opened-size, opened-cell, opened-top, opened-blank}
-use Rattle.layout.specs.SoundLaws.{what-top, what-blank, up-top, up-blank, in-top, in-blank, depth-top, depth-blank, shape-by-numbers, modes-by-numbers, headed-fit}
+use Rattle.layout.specs.laws.Laws.{node-in, node-past, cell-in, cell-past, of-buffer}
+use Rattle.layout.specs.laws.RecordLaws.{bare-length, bare-whole, as-blank}
+use Rattle.layout.specs.laws.PlaceLaws.{opened-vars, opened-room, opened-made, opened-focus, opened-size, opened-cell, opened-top, opened-blank}
+use Rattle.layout.specs.laws.SoundLaws.{what-top, what-blank, up-top, up-blank, in-top, in-blank, depth-top, depth-blank, shape-by-numbers, modes-by-numbers, headed-fit}
 
 -- ---- an opened store t, with the bytes `rest` past its size
 pub record Opens (v n : ℕ) (tops rest t : List ℕ) : Type 0 where

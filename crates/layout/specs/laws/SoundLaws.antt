@@ -20,7 +20,7 @@ use Rattle.layout.specs.Kinds.{IsBinding, IsWind, IsNode, byKind, isIn, 
 use Rattle.layout.specs.Fields.{Fields, fieldsOf, Fit, roomF, madeF, focusF, varsF}
 use Rattle.layout.specs.View.{whatN, upN, treeF, viewF, view}
 use Rattle.layout.specs.Sound.{NodeOk, depthAbove, HeadOk, CellsOk, Shape, Ins, SoundF, Headed, Sound}
-use Rattle.layout.specs.Laws.{OfBuffer, of-buffer}
+use Rattle.layout.specs.laws.Laws.{OfBuffer, of-buffer}
 
 -- ---- what a node's record says
 pub what-binding : (p : List ℕ) → IsBinding (kindN p) → whatN p ≡ binding (varN p)

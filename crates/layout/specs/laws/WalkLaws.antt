@@ -23,10 +23,10 @@ use Rattle.layout.specs.Writes.{turnB, leaveB, enterB, Turns}
 use Rattle.layout.specs.Made.{IsMade}
 use Rattle.layout.specs.Becomes.{Kept, Becomes}
 use Rattle.layout.specs.Routes.{movesTo}
-use Rattle.layout.specs.Laws.{of-buffer, node-in, Wrote, wrote-node, wrote-fit, fields-vars, fields-room}
-use Rattle.layout.specs.RecordLaws.{swap-length, turn-same, swap-same}
-use Rattle.layout.specs.SoundLaws.{Place, is-top, is-inner, is-blank, place, what-blank, up-top, out-top, up-inner, blank-node, not-blank, sound-fit, sound-view, shape-inners}
-use Rattle.layout.specs.MoveLaws.{wrote-swap, wrote-wind, sound-turns, inner, leave-becomes, enter-becomes}
+use Rattle.layout.specs.laws.Laws.{of-buffer, node-in, Wrote, wrote-node, wrote-fit, fields-vars, fields-room}
+use Rattle.layout.specs.laws.RecordLaws.{swap-length, turn-same, swap-same}
+use Rattle.layout.specs.laws.SoundLaws.{Place, is-top, is-inner, is-blank, place, what-blank, up-top, out-top, up-inner, blank-node, not-blank, sound-fit, sound-view, shape-inners}
+use Rattle.layout.specs.laws.MoveLaws.{wrote-swap, wrote-wind, sound-turns, inner, leave-becomes, enter-becomes}
 
 -- ---- one after the other
 pub kept-self : (s : List ℕ) → Kept s s

@@ -20,12 +20,12 @@ use Rattle.layout.specs.View.{upN, treeF, viewF, view}
 use Rattle.layout.specs.Sound.{Sound}
 use Rattle.layout.specs.Events.{eventD, told, eventsFrom, eventsTo}
 use Rattle.layout.specs.Made.{IsMade}
-use Rattle.layout.specs.Laws.{node-in}
-use Rattle.layout.specs.SoundLaws.{what-wind, up-node}
-use Rattle.layout.specs.WalkLaws.{made-seen, made-room, focus-made, parent-seen, parent-made}
+use Rattle.layout.specs.laws.Laws.{node-in}
+use Rattle.layout.specs.laws.SoundLaws.{what-wind, up-node}
+use Rattle.layout.specs.laws.WalkLaws.{made-seen, made-room, focus-made, parent-seen, parent-made}
 use Rattle.layout.specs.Routes.{Over, movesTo, movesFrom, leftEvents, enteredEvents, meeting, OnWay, toldAt, Entering}
-use Rattle.layout.specs.RouteLaws.{moves-entered, events-entered, events-none, meet-up, below-meet, plain, what-node, proper, risen}
-use Rattle.layout.specs.EventLaws.{told-first, told-none, told-left, told-entered, told-length, told-next, told-prev}
+use Rattle.layout.specs.laws.RouteLaws.{moves-entered, events-entered, events-none, meet-up, below-meet, plain, what-node, proper, risen}
+use Rattle.layout.specs.laws.EventLaws.{told-first, told-none, told-left, told-entered, told-length, told-next, told-prev}
 
 -- ---- the events of one node
 no-wind : (e : Bool) (w : What) (p : ℕ) → isWind w ≡ 0 → windEvent e w p ≡ []

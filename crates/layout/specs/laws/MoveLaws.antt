@@ -22,9 +22,9 @@ use Rattle.layout.specs.View.{asCell, whatN, upN, treeF, viewF, view}
 use Rattle.layout.specs.Sound.{NodeOk, depthAbove, HeadOk, Shape, Sound}
 use Rattle.layout.specs.Writes.{swapB, turnB, moveB, leaveB, enterB, Turns}
 use Rattle.layout.specs.Becomes.{Becomes}
-use Rattle.layout.specs.Laws.{OfBuffer, of-buffer, node-in, cell-in, Wrote, nodeF, cellF, focusTo, fields-vars, fields-room, wrote-node, wrote-cell, wrote-focus, wrote-fit, then}
-use Rattle.layout.specs.RecordLaws.{put-length, turn-length, swap-length, bare-length, stored-length, bare-put, SameNode, turn-kind, turn-same, turn-stored, swap-kind, swap-same, swap-stored}
-use Rattle.layout.specs.SoundLaws.{what-binding, what-wind, up-node, inner-up, sound-fit, sound-view, shape-inners, parents-made, shape-blanks, shape-by-numbers}
+use Rattle.layout.specs.laws.Laws.{OfBuffer, of-buffer, node-in, cell-in, Wrote, nodeF, cellF, focusTo, fields-vars, fields-room, wrote-node, wrote-cell, wrote-focus, wrote-fit, then}
+use Rattle.layout.specs.laws.RecordLaws.{put-length, turn-length, swap-length, bare-length, stored-length, bare-put, SameNode, turn-kind, turn-same, turn-stored, swap-kind, swap-same, swap-stored}
+use Rattle.layout.specs.laws.SoundLaws.{what-binding, what-wind, up-node, inner-up, sound-fit, sound-view, shape-inners, parents-made, shape-blanks, shape-by-numbers}
 
 -- ---- functions through a change at one place
 module _ {B : Type 0} (h : List ℕ → B) (g : ℕ → List ℕ) (n : ℕ) (p : List ℕ) where

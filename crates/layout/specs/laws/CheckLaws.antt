@@ -23,8 +23,8 @@ use Rattle.layout.specs.Kinds.{isIn, isOut, node-kind, out-not-in, not-f
 use Rattle.layout.specs.Fields.{Fields, fieldsOf, madeF, focusF}
 use Rattle.layout.specs.View.{upN, treeF}
 use Rattle.layout.specs.Sound.{Says, Shape, Ins, Sound}
-use Rattle.layout.specs.Laws.{OfBuffer, of-buffer}
-use Rattle.layout.specs.SoundLaws.{Place, is-top, is-inner, is-blank, place, out-top, shape-inners, parents-made, inner-up, up-inner, shape-proper, shape-ranked, path-made, modes-by-numbers, sound-fit}
+use Rattle.layout.specs.laws.Laws.{OfBuffer, of-buffer}
+use Rattle.layout.specs.laws.SoundLaws.{Place, is-top, is-inner, is-blank, place, out-top, shape-inners, parents-made, inner-up, up-inner, shape-proper, shape-ranked, path-made, modes-by-numbers, sound-fit}
 
 -- ---- tests
 pub says-map : (b : Bool) {P Q : Type 0} → (P → Q) → (Q → P) → Says b P → Says b Q

@@ -20,7 +20,7 @@ use Rattle.rules.specs.Calls.{deciderAt, valueAt, look-right}
 use Rattle.rules.specs.Meaning.{home-means}
 use Rattle.rules.specs.Effects.{SameDeep}
 use Rattle.layout.specs.Limits.{cellSize, nodeSize, sizeOf}
-use Rattle.layout.specs.Bytes.{part, BytesTo}
+use Rattle.layout.specs.Bytes.{part, Bytes, BytesTo}
 use Rattle.layout.specs.Records.{headOf, headB, vars, room, made, focus, cellOf, bareC, cellB, nodeOf, kindN, parentN, varN, postN, storedN, depthN, nodeB}
 use Rattle.layout.specs.Kinds.{isIn, Node, binding-out, binding-in, wind-out, wind-in, node-kind, IsBinding, IsWind, IsNode}
 use Rattle.layout.specs.Fields.{cells, nodes, fieldsOf, past}
@@ -29,16 +29,12 @@ use Rattle.layout.specs.Sound.{NodeOk, depthAbove, Sound}
 use Rattle.layout.specs.Events.{bit}
 use Rattle.layout.specs.Made.{IsMade}
 use Rattle.layout.specs.Becomes.{Becomes}
-use Rattle.layout.specs.Laws.{of-buffer, node-in, cell-in, node-past, cell-past}
-use Rattle.layout.specs.RecordLaws.{bare-length, stored-length, cell-again, node-again, bare-bytes, stored-bytes, cell-once, as-blank}
-use Rattle.layout.specs.PlaceLaws.{head-said, cell-bytes, node-bytes, alike-number, alike-cell, alike-node, at-each}
-use Rattle.layout.specs.OpenLaws.{stored-top, stored-blank}
-use Rattle.layout.specs.SoundLaws.{what-binding, what-wind, up-node, Place, is-top, is-inner, is-blank, place, blank-node, sound-fit, sound-view, sound-ranked, up-inner, what-top, what-blank, shape-inners, shape-blanks}
-use Rattle.layout.specs.WalkLaws.{made-seen, seen-made}
-
--- every number is below 256 (past the end `getD` gives 0)
-abbrev pub Bytes : List ℕ → Type 0
-Bytes xs = (i : ℕ) → getD xs i 0 < 256
+use Rattle.layout.specs.laws.Laws.{of-buffer, node-in, cell-in, node-past, cell-past}
+use Rattle.layout.specs.laws.RecordLaws.{bare-length, stored-length, cell-again, node-again, bare-bytes, stored-bytes, cell-once, as-blank}
+use Rattle.layout.specs.laws.PlaceLaws.{head-said, cell-bytes, node-bytes, alike-number, alike-cell, alike-node, at-each}
+use Rattle.layout.specs.laws.OpenLaws.{stored-top, stored-blank}
+use Rattle.layout.specs.laws.SoundLaws.{what-binding, what-wind, up-node, Place, is-top, is-inner, is-blank, place, blank-node, sound-fit, sound-view, sound-ranked, up-inner, what-top, what-blank, shape-inners, shape-blanks}
+use Rattle.layout.specs.laws.WalkLaws.{made-seen, seen-made}
 
 -- ---- an inner node is what it is seen as
 -- its kind: a binding's or a wind's, and in or out

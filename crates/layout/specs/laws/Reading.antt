@@ -23,10 +23,10 @@ use Rattle.layout.specs.Fields.{nodes, fieldsOf, Fit}
 use Rattle.layout.specs.View.{asCell, whatN, upN, treeF, viewF, view}
 use Rattle.layout.specs.Sound.{NodeOk, depthAbove, Sound}
 use Rattle.layout.specs.Made.{IsMade}
-use Rattle.layout.specs.Laws.{node-in, cell-in}
-use Rattle.layout.specs.SoundLaws.{what-binding, up-node, up-top, sound-fit, sound-headed, sound-view, shape-inners}
-use Rattle.layout.specs.MoveLaws.{inner}
-use Rattle.layout.specs.WalkLaws.{made-seen, made-room, focus-made, out-up, in-above, parent-made}
+use Rattle.layout.specs.laws.Laws.{node-in, cell-in}
+use Rattle.layout.specs.laws.SoundLaws.{what-binding, up-node, up-top, sound-fit, sound-headed, sound-view, shape-inners}
+use Rattle.layout.specs.laws.MoveLaws.{inner}
+use Rattle.layout.specs.laws.WalkLaws.{made-seen, made-room, focus-made, out-up, in-above, parent-made}
 
 -- ---- a decider by its number: 0 where the top value decides
 unfoldable pub binderOf : ℕ → Option ℕ

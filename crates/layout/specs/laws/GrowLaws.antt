@@ -27,10 +27,10 @@ use Rattle.layout.specs.Sound.{NodeOk, depthAbove, Shape, Sound}
 use Rattle.layout.specs.Writes.{depthUnder, setB, growB, bindB, windB}
 use Rattle.layout.specs.Made.{nextOf, IsFull}
 use Rattle.layout.specs.Becomes.{Becomes}
-use Rattle.layout.specs.Laws.{of-buffer, node-in, cell-in, Wrote, nodeF, cellF, madeTo, focusTo, fields-vars, wrote-node, wrote-cell, wrote-made, wrote-focus, wrote-fit, then}
-use Rattle.layout.specs.RecordLaws.{put-length, bare-length, value-length, node-length, bare-put, node-kind, node-parent, node-var, node-post, node-stored, node-depth, as-blank, as-value}
-use Rattle.layout.specs.SoundLaws.{what-binding, what-wind, what-blank, up-node, blank-node, not-blank, depth-few, sound-fit, sound-view, shape-inners, parents-made, shape-blanks, shape-by-numbers}
-use Rattle.layout.specs.MoveLaws.{through, becomes}
+use Rattle.layout.specs.laws.Laws.{of-buffer, node-in, cell-in, Wrote, nodeF, cellF, madeTo, focusTo, fields-vars, wrote-node, wrote-cell, wrote-made, wrote-focus, wrote-fit, then}
+use Rattle.layout.specs.laws.RecordLaws.{put-length, bare-length, value-length, node-length, bare-put, node-kind, node-parent, node-var, node-post, node-stored, node-depth, as-blank, as-value}
+use Rattle.layout.specs.laws.SoundLaws.{what-binding, what-wind, what-blank, up-node, blank-node, not-blank, depth-few, sound-fit, sound-view, shape-inners, parents-made, shape-blanks, shape-by-numbers}
+use Rattle.layout.specs.laws.MoveLaws.{through, becomes}
 
 -- ---- the depth of a child of the focus, as the code finds it; it fits in two bytes
 pub under-is : (s : List ℕ) → Sound s → (f d : ℕ) → f ≡ focus s → d ≡ depthN (nodeOf s f) → d + 1 ≡ depthUnder s

@@ -23,9 +23,9 @@ use Rattle.layout.specs.Fields.{fieldsOf, nodes}
 use Rattle.layout.specs.View.{whatN, treeF, viewF, view}
 use Rattle.layout.specs.Sound.{Sound}
 use Rattle.layout.specs.Made.{IsMade}
-use Rattle.layout.specs.Laws.{node-in, of-buffer}
-use Rattle.layout.specs.SoundLaws.{sound-fit, sound-view, depth-few}
-use Rattle.layout.specs.WalkLaws.{made-seen, seen-made, made-room, focus-made, seen-focus, out-up, in-above, parent-seen, parent-made}
+use Rattle.layout.specs.laws.Laws.{node-in, of-buffer}
+use Rattle.layout.specs.laws.SoundLaws.{sound-fit, sound-view, depth-few}
+use Rattle.layout.specs.laws.WalkLaws.{made-seen, seen-made, made-room, focus-made, seen-focus, out-up, in-above, parent-seen, parent-made}
 use Rattle.layout.specs.Routes.{firstOn, meet, Over, movesFrom, movesTo, leftEvents, enteredEvents, meeting, OnWay, Climbing}
 use Rattle.layout.specs.Events.{eventsFrom, eventsTo}
 

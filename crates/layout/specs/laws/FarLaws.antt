@@ -15,10 +15,10 @@ use Rattle.layout.specs.Fields.{fieldsOf}
 use Rattle.layout.specs.View.{treeF, viewF, view}
 use Rattle.layout.specs.Sound.{Sound}
 use Rattle.layout.specs.Made.{IsMade}
-use Rattle.layout.specs.Laws.{node-in}
-use Rattle.layout.specs.SoundLaws.{sound-view, sound-ranked}
-use Rattle.layout.specs.WalkLaws.{made-seen, made-room}
-use Rattle.layout.specs.Reading.{top-up, up-is, up-made}
+use Rattle.layout.specs.laws.Laws.{node-in}
+use Rattle.layout.specs.laws.SoundLaws.{sound-view, sound-ranked}
+use Rattle.layout.specs.laws.WalkLaws.{made-seen, made-room}
+use Rattle.layout.specs.laws.Reading.{top-up, up-is, up-made}
 use Rattle.layout.specs.Routes.{movesFrom}
 
 abbrev pub depthAt : List ℕ → ℕ → ℕ
