@@ -90,8 +90,8 @@ unfoldable pub putC : List ℕ → List ℕ → List ℕ
 putC p c = putIn p 0 1 c
 
 -- a whole cell, new, with the bare cell c: today nothing else
-unfoldable pub cellB : List ℕ → List ℕ
-cellB c = getD c 0 0 ∷ getD c 1 0 ∷ getD c 2 0 ∷ getD c 3 0 ∷ getD c 4 0 ∷ []
+unfoldable pub wholeC : List ℕ → List ℕ
+wholeC c = getD c 0 0 ∷ getD c 1 0 ∷ getD c 2 0 ∷ getD c 3 0 ∷ getD c 4 0 ∷ []
 
 -- the bare cell of x in open's top cells
 unfoldable pub topC : List ℕ → ℕ → List ℕ

@@ -5,7 +5,7 @@ use mathlib.Core.List.{List, [], _++_}
 use lib.ListN.{replicate}
 use lib.IntN.{ℤ}
 use Rattle.layout.specs.Limits.{nodeSize}
-use Rattle.layout.specs.Records.{headB, vars, room, made, focus, withFocus, withMade, blankCell, valueC, cellOf, withCell, bareC, putC, cellB, topC, nodeOf, withNode, kindN, parentN, varN, storedN, depthN, turnN, swapN, nodeB, topNode}
+use Rattle.layout.specs.Records.{headB, vars, room, made, focus, withFocus, withMade, blankCell, valueC, cellOf, withCell, bareC, putC, wholeC, topC, nodeOf, withNode, kindN, parentN, varN, storedN, depthN, turnN, swapN, nodeB, topNode}
 use Rattle.layout.specs.Kinds.{byKind, leftKind, enteredKind, IsBinding, IsNode}
 use Rattle.layout.specs.Fields.{nodes, Fit}
 
@@ -60,7 +60,7 @@ windB s p q = growB s (nodeB 5 (focus s) p q blankCell (depthUnder s))
 -- the first v cells
 abbrev pub cellsB : ℕ → List ℕ → List ℕ
 cellsB zero tops = []
-cellsB (suc v) tops = cellsB v tops ++ cellB (topC tops v)
+cellsB (suc v) tops = cellsB v tops ++ wholeC (topC tops v)
 
 -- k bytes of nodes: the top, then blanks
 unfoldable pub nodesB : ℕ → List ℕ

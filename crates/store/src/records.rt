@@ -5,7 +5,7 @@ ghost use Prim.Native.Nat.{_+_, _*_, _<_, _≤_};
 ghost use lib.ListN.{length, drop};
 ghost use Rattle.layout.specs.Limits.{header, cellSize, bareSize, nodeSize, eventSize, cellAt, nodeAt, sizeOf};
 ghost use Rattle.layout.specs.Bytes.{splice};
-ghost use Rattle.layout.specs.Records.{headN, withHead, vars, room, made, focus, withFocus, withMade, cellOf, withCell, cellIn, putIn, bareC, putC, cellB, topC, nodeOf, withNode, kindN, parentN, varN, postN, storedN, depthN, turnN, swapN, nodeB};
+ghost use Rattle.layout.specs.Records.{headN, withHead, vars, room, made, focus, withFocus, withMade, cellOf, withCell, cellIn, putIn, bareC, putC, wholeC, topC, nodeOf, withNode, kindN, parentN, varN, postN, storedN, depthN, turnN, swapN, nodeB};
 ghost use Rattle.layout.specs.Fields.{Fit};
 ghost use Rattle.layout.specs.Events.{eventD};
 use crate::number::put16_at;
@@ -151,7 +151,7 @@ pub(crate) fn set_cell(s: &mut [u8], x: usize, c: [u8; Store::BARE])
 // A whole new cell, with the bare cell c.
 fn put_cell(p: &mut [u8], c: [u8; Store::BARE])
     requires { ⌜ length (now p) ≡ cellSize ⌝ }
-    ensures { λ _. ⌜ now (p .exit) ≡ cellB c ⌝ }
+    ensures { λ _. ⌜ now (p .exit) ≡ wholeC c ⌝ }
 {
     put_bare(p, c);
 }
@@ -159,7 +159,7 @@ fn put_cell(p: &mut [u8], c: [u8; Store::BARE])
 // The new cell of x, in a store that is being opened.
 pub(crate) fn new_cell(s: &mut [u8], x: usize, c: [u8; Store::BARE])
     requires { ⌜ (x < 65536) × (cellAt x + cellSize ≤ length (now s)) ⌝ }
-    ensures { λ _. ⌜ now (s .exit) ≡ withCell (now (s .entry)) x (cellB c) ⌝ }
+    ensures { λ _. ⌜ now (s .exit) ≡ withCell (now (s .entry)) x (wholeC c) ⌝ }
 {
     let a = cell_at(x);
     let e = a + Store::CELL;

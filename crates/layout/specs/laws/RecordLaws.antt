@@ -13,7 +13,7 @@ use mir.ValLaws.{ofZ-fits, ofZ-toZ, toZ-ofZ}
 use Rattle.rules.specs.Values.{unbound, value}
 use Rattle.layout.specs.Limits.{header, cellSize, bareSize, nodeSize}
 use Rattle.layout.specs.Bytes.{u16, put16, tab, by-tab, BytesTo}
-use Rattle.layout.specs.Records.{headB, blankCell, ProperCell, bitsC, valueC, bareC, putC, cellB, kindN, parentN, varN, postN, storedN, depthN, turnN, swapN, nodeB, topNode}
+use Rattle.layout.specs.Records.{headB, blankCell, ProperCell, bitsC, valueC, bareC, putC, wholeC, kindN, parentN, varN, postN, storedN, depthN, turnN, swapN, nodeB, topNode}
 use Rattle.layout.specs.View.{asCell}
 
 -- ---- lengths
@@ -45,8 +45,8 @@ pub node-length : (k up a b : ℕ) (c : List ℕ) (d : ℕ) → length (nodeB k 
 unfolding nodeB
 node-length k up a b c d = refl
 
-pub cell-length : (c : List ℕ) → length (cellB c) ≡ cellSize
-unfolding cellB
+pub cell-length : (c : List ℕ) → length (wholeC c) ≡ cellSize
+unfolding wholeC
 cell-length c = refl
 
 -- ---- a cell's record
@@ -56,14 +56,14 @@ bare-put p c l e =
     by-tab cellSize (λ (q : List ℕ). (d : List ℕ) → length d ≡ bareSize → bareC (putC q d) ≡ d)
     (λ f. by-tab bareSize (λ (d : List ℕ). bareC (putC (tab cellSize f) d) ≡ d) (λ g. refl)) p l c e
 
-pub bare-whole : (c : List ℕ) → length c ≡ bareSize → bareC (cellB c) ≡ c
-unfolding bareC cellB
-bare-whole = by-tab bareSize (λ c. bareC (cellB c) ≡ c) (λ f. refl)
+pub bare-whole : (c : List ℕ) → length c ≡ bareSize → bareC (wholeC c) ≡ c
+unfolding bareC wholeC
+bare-whole = by-tab bareSize (λ c. bareC (wholeC c) ≡ c) (λ f. refl)
 
 -- a cell is its bare cell and nothing else
-pub cell-again : (p : List ℕ) → length p ≡ cellSize → cellB (bareC p) ≡ p
-unfolding bareC cellB
-cell-again = by-tab cellSize (λ p. cellB (bareC p) ≡ p) (λ f. refl)
+pub cell-again : (p : List ℕ) → length p ≡ cellSize → wholeC (bareC p) ≡ p
+unfolding bareC wholeC
+cell-again = by-tab cellSize (λ p. wholeC (bareC p) ≡ p) (λ f. refl)
 
 -- ---- a node's record: but for the kind and the stored cell, p is q
 pub record SameNode (p q : List ℕ) : Type 0 where

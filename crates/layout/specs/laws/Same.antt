@@ -21,7 +21,7 @@ use Rattle.rules.specs.Meaning.{home-means}
 use Rattle.rules.specs.Effects.{SameDeep}
 use Rattle.layout.specs.Limits.{cellSize, nodeSize, sizeOf}
 use Rattle.layout.specs.Bytes.{part, Bytes, BytesTo}
-use Rattle.layout.specs.Records.{headOf, headB, vars, room, made, focus, cellOf, bareC, cellB, nodeOf, kindN, parentN, varN, postN, storedN, depthN, nodeB}
+use Rattle.layout.specs.Records.{headOf, headB, vars, room, made, focus, cellOf, bareC, wholeC, nodeOf, kindN, parentN, varN, postN, storedN, depthN, nodeB}
 use Rattle.layout.specs.Kinds.{isIn, Node, binding-out, binding-in, wind-out, wind-in, node-kind, IsBinding, IsWind, IsNode}
 use Rattle.layout.specs.Fields.{cells, nodes, fieldsOf, past}
 use Rattle.layout.specs.View.{asCell, whatN, upN, treeF, viewF, view}
@@ -144,7 +144,7 @@ module _ (s t : List ℕ) (ok : Sound s) (ok′ : Sound t) (bytes : Bytes s) (by
       cell-once (bareC (cells s x)) (bareC (cells t x)) (bare-length (cells s x)) (bare-length (cells t x))
       (bare-bytes (cells s x) (cell-bytes s bytes x h)) (bare-bytes (cells t x) (cell-bytes t bytes′ x h′))
       (ok .fields .shape .cells x h) (ok′ .fields .shape .cells x h′) (ap (λ (w : store.Store). w .values .cell x) same) in
-      sym (cell-in s x h) ∙ sym (cell-again (cells s x) l) ∙ ap cellB bare ∙ cell-again (cells t x) l′ ∙ cell-in t x h′
+      sym (cell-in s x h) ∙ sym (cell-again (cells s x) l) ∙ ap wholeC bare ∙ cell-again (cells t x) l′ ∙ cell-in t x h′
 
   -- a node
   same-node : (n : ℕ) → n < room s → nodeOf s n ≡ nodeOf t n

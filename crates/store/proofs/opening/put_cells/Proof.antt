@@ -3,7 +3,7 @@ use mathlib.Core.Path.{_≡_, refl, ap, _∙_}
 use Prim.Native.Nat.{_-_, _≤_}
 use native.Mathlib.Omega.{arith}
 use lib.ListN.{length}
-use Rattle.layout.specs.Records.{withCell, withCells, cellB}
+use Rattle.layout.specs.Records.{withCell, withCells, wholeC}
 use Rattle.layout.specs.Writes.{cellsB}
 use Rattle.layout.specs.laws.PlaceLaws.{cells-none, cells-more}
 use borrow.Author.Needs.{needs}
@@ -41,7 +41,7 @@ loop-again c =
       omega arith,
       (
         omega arith,
-        new .ensures ∙ (λ i. withCell (was i) x (cellB (c .before .before .before .top-cell .ensures i))) ∙ cells-more (args .s .now) (args .tops .now) x (omega arith),
+        new .ensures ∙ (λ i. withCell (was i) x (wholeC (c .before .before .before .top-cell .ensures i))) ∙ cells-more (args .s .now) (args .tops .now) x (omega arith),
       ),
     )
 

@@ -1,6 +1,6 @@
 -- The lent part becomes the cell's record in the store (`lent-at`).
 use Rattle.layout.specs.Bytes.{lent-at}
-use Rattle.layout.specs.Records.{withCell, cellB}
+use Rattle.layout.specs.Records.{withCell, wholeC}
 use borrow.Author.Needs.{needs}
 use Rattle.store.proofs.records.new_cell.Statement.{statement}
 use Rattle.store.proofs.records.new_cell.Tie as tie
@@ -30,7 +30,7 @@ returns : tie.Need-returns
 unfolding withCell
 returns c =
     let c′ = c .before .before .before .before .before .before .args .c in
-    lent-at (λ p. cellB c′) _ _ _ _ _ (c .before .before .before .before .cell-at .ensures) (c .before .before .put-cell .ensures)
+    lent-at (λ p. wholeC c′) _ _ _ _ _ (c .before .before .before .before .cell-at .ensures) (c .before .before .put-cell .ensures)
 
 pub new-cell-spec : {M : Type 1} → statement M
 new-cell-spec =

@@ -5,14 +5,14 @@ use mathlib.Core.List.{List}
 use lib.ListN.{length}
 use Rattle.layout.specs.Limits.{cellSize}
 use Rattle.layout.specs.Bytes.{by-tab}
-use Rattle.layout.specs.Records.{putC, cellB}
+use Rattle.layout.specs.Records.{putC, wholeC}
 use borrow.Author.Needs.{needs}
 use Rattle.store.proofs.records.put_cell.Statement.{statement}
 use Rattle.store.proofs.records.put_cell.Tie as tie
 
-whole : (c p : List ℕ) → length p ≡ cellSize → putC p c ≡ cellB c
-unfolding putC cellB
-whole c = by-tab cellSize (λ p. putC p c ≡ cellB c) (λ f. refl)
+whole : (c p : List ℕ) → length p ≡ cellSize → putC p c ≡ wholeC c
+unfolding putC wholeC
+whole c = by-tab cellSize (λ p. putC p c ≡ wholeC c) (λ f. refl)
 
 put-bare-requires : tie.Need-put-bare-requires
 put-bare-requires c κs = search needs
