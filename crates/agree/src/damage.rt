@@ -93,18 +93,36 @@ fn struck(b: usize, n: usize) -> usize {
     plus(b / 256 * 256, plus(b, n) % 256)
 }
 
-// One byte changed, of bytes that agree.
-pub(crate) fn damage(loud: bool, g: usize, s: &mut [u8], m: &mut [usize; SPACE]) -> usize {
-    let at = draw::hit(g, model::size(m));
-    let n = draw::blow(draw::later(g));
+// The number at `at` becomes another, in bytes that agree.
+fn strike(
+    loud: bool,
+    g: usize,
+    at: usize,
+    new: usize,
+    s: &mut [u8],
+    m: &mut [usize; SPACE],
+) -> usize {
     let old = number16(s, at);
-    say::line(loud, say::DAMAGE, at, n, 0);
-    spell16(s, at, struck(old, n));
+    say::line(loud, say::DAMAGE, at, new, 0);
+    spell16(s, at, new);
     if image::take(s, m) {
         changed(loud, g, s, m)
     } else {
         broken(g, at, old, s, m)
     }
+}
+
+// One byte changed; or an environment has another parent, which may be as deep as the one it had.
+pub(crate) fn damage(loud: bool, g: usize, s: &mut [u8], m: &mut [usize; SPACE]) -> usize {
+    let h = draw::later(g);
+    let made = model::head(m, MADE);
+    let byte = draw::hit(g, model::size(m));
+    let node = image::node_at(model::head(m, VARS), draw::which(g, made));
+    if draw::draw(draw::later(h), 4) == 0 {
+        return strike(loud, g, plus(node, 2), draw::draw(h, made), s, m);
+    }
+    let new = struck(number16(s, byte), draw::blow(h));
+    strike(loud, g, byte, new, s, m)
 }
 
 // ---- a cell that loses its value

@@ -7,7 +7,7 @@ use libc::STDOUT_FILENO;
 
 // Each row ends in a dot. A, B and C stand for three numbers, V for B as the bits of a value, and / ends a line. There is a row
 // for each count by its number, then for the kinds of sequences, for what is found, for the operations, and the rows below.
-const TEXT: usize = 1542;
+const TEXT: usize = 1544;
 
 const ROWS: [u8; TEXT] = *b".\
     refused with 1=A/.\
@@ -72,7 +72,7 @@ const ROWS: [u8; TEXT] = *b".\
     \x20moves=A events=B by=none/.\
     byte=A model=B store=C/.\
     the value of variable=A at=B/.\
-    damage: byte=A plus=B/.\
+    damage: byte=A number=B/.\
     hollow: cell at byte=A/.\
     open: vars=A nodes=B bytes of top cells=C/.\
     here with the first bytes=A/.\
