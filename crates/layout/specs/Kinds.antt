@@ -1,7 +1,7 @@
 -- Document 01's kinds: 0 blank, 1 top, 2 binding out, 3 binding in, 4 wind out, 5 wind in. What is in or out, a binding
 -- or a wind is read from the kind here; of the laws, those on what a node binds and tells (Reading, RouteLaws) part the kinds by
 -- their ranges too. Assumes nothing.
-use mathlib.Core.Path.{_≡_, refl, sym, ap, _∙_}
+use mathlib.Core.Path.{_≡_, refl, ap, _∙_}
 use mathlib.Core.Logic.{_⊎_, inl, inr}
 use mathlib.Core.Bool.{Bool, true, false, not, cond, _||_}
 use Prim.Native.Nat.{ℕ, zero, suc, _+_, _-_, _≤_, _<_}
@@ -97,11 +97,3 @@ out-not-in _ binding-out = refl
 out-not-in _ binding-in = refl
 out-not-in _ wind-out = refl
 out-not-in _ wind-in = refl
-
-pub not-true : (b : Bool) → not b ≡ true → b ≡ false
-not-true true e = sym e
-not-true false e = refl
-
-pub not-false : (b : Bool) → not b ≡ false → b ≡ true
-not-false true e = refl
-not-false false e = sym e

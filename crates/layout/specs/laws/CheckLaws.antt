@@ -13,13 +13,13 @@ use native.Mathlib.Decide.{ℕ-discrete}
 use lib.Dec.{eqb, ltb}
 use lib.ListN.{length, getD, take, drop, replicate, length-drop}
 use lib.Seq.{length-take-le, getD-take, getD-drop}
-use borrow.Author.Tests.{eqb-true, eqb-false, ltb-true, ltb-false}
+use borrow.Author.Tests.{eqb-true, eqb-false, ltb-true, ltb-false, not-false}
 use Rattle.rules.specs.Basic.{on, clash, on-head, on-cases}
 use Rattle.rules.specs.Tree.{Tree, Proper, path, path-top, path-up, path-once, downward, on-path-above, rank-depth}
 use Rattle.rules.specs.Modes.{num, count, count-on, modes-by-count}
 use Rattle.layout.specs.Bytes.{Zeros, zeros-list, list-zeros}
 use Rattle.layout.specs.Records.{made, kindN, parentN, depthN, topNode}
-use Rattle.layout.specs.Kinds.{isIn, isOut, node-kind, out-not-in, not-false}
+use Rattle.layout.specs.Kinds.{isIn, isOut, node-kind, out-not-in}
 use Rattle.layout.specs.Fields.{Fields, fieldsOf, madeF, focusF}
 use Rattle.layout.specs.View.{upN, treeF}
 use Rattle.layout.specs.Sound.{Says, Shape, Ins, Sound}

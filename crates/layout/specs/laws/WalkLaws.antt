@@ -8,6 +8,7 @@ use Prim.Native.Nat.{ℕ, _<_}
 use native.Mathlib.Omega.{arith}
 use mathlib.Core.List.{List}
 use lib.ListN.{length}
+use borrow.Author.Tests.{not-true, not-false}
 use Rattle.rules.specs.Basic.{upd-same, clash, on, some≢none}
 use Rattle.rules.specs.Tree.{blank, Tree, path, off-parent}
 use Rattle.rules.specs.Store as store
@@ -15,7 +16,7 @@ use Rattle.rules.specs.Store.{goto, goto-focus, goto-tree, goto-sound, goto-her
 use Rattle.rules.specs.Walk.{Turn, arrived, outside, above, turn, goto-out, goto-in, far-out, far-in}
 use Rattle.layout.specs.Limits.{nodeSize}
 use Rattle.layout.specs.Records.{vars, room, made, focus, nodeOf, withNode, kindN, parentN, swapN}
-use Rattle.layout.specs.Kinds.{isIn, isOut, kind-binding, kind-wind, node-kind, out-not-in, not-true, not-false, IsNode}
+use Rattle.layout.specs.Kinds.{isIn, isOut, kind-binding, kind-wind, node-kind, out-not-in, IsNode}
 use Rattle.layout.specs.Fields.{Fields, fieldsOf, nodes, Fit, varsF, roomF}
 use Rattle.layout.specs.View.{whatN, upN, treeF, viewF, view}
 use Rattle.layout.specs.Sound.{Sound}
