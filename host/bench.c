@@ -24,18 +24,22 @@ struct face {
     kn_answer (*far)(const uint8_t *, size_t, uint32_t, uint32_t);
     kn_answer (*go)(uint8_t *, size_t, uint8_t *, size_t, uint32_t);
     kn_answer (*back)(uint8_t *, size_t, uint8_t *, size_t);
+    kn_answer (*begin)(uint8_t *, size_t, uint32_t);
+    kn_answer (*step)(uint8_t *, size_t);
+    kn_answer (*drop)(uint8_t *, size_t);
 };
 
 #define FACE(prefix)                                                      \
     { prefix##_open, prefix##_bind, prefix##_wind, prefix##_look,         \
       prefix##_peek, prefix##_set,  prefix##_here, prefix##_far,          \
-      prefix##_goto, prefix##_back }
+      prefix##_goto, prefix##_back, prefix##_begin, prefix##_step,        \
+      prefix##_drop }
 
 static const struct face library = FACE(kn);
 
 struct rival { const char *name; struct face face; };
 
-/* Goto and back have three: the recursive walk as it is compiled, the walk by
+/* Goto, back and step have three: the recursive walk as it is compiled, the walk by
    loops, and the recursive walk with every call kept a call. Every call that
    checks has one more, whose check climbs from the focus. */
 enum { PLAIN, RECURSIVE, LOOPS, KEPT, CLIMBS, RIVALS };
@@ -88,7 +92,7 @@ static void put_back(const struct spot *p, struct shape *s)
 static uint64_t sum(uint64_t before, kn_answer r)
 {
     return before * 31 + r.code + 3u * (uint32_t)r.out + 5u * r.moves
-           + 7u * r.events + 11u * r.by;
+           + 7u * r.events + 11u * r.by + 13u * r.thunk + 17u * r.event;
 }
 
 static uint64_t run_open(const struct face *f, struct job *j, unsigned times)
@@ -204,6 +208,33 @@ static uint64_t run_back(const struct face *f, struct job *j, unsigned times)
     return total;
 }
 
+/* A begin and the drop after it. */
+static uint64_t run_begin(const struct face *f, struct job *j, unsigned times)
+{
+    uint64_t total = 0;
+
+    for (; times > 0; times -= 2) {
+        total = sum(total, f->begin(j->s.store, j->s.len, j->other));
+        total = sum(total, f->drop(j->s.store, j->s.len));
+    }
+    return total;
+}
+
+/* The step that the store in its walk is at. The whole store is put back after
+   it, which is timed with it. */
+static uint64_t run_step(const struct face *f, struct job *j, unsigned times)
+{
+    static uint8_t kept[sizeof j->s.store];
+    uint64_t total = 0;
+
+    memcpy(kept, j->s.store, j->s.len);
+    while (times-- > 0) {
+        total = sum(total, f->step(j->s.store, j->s.len));
+        memcpy(j->s.store, kept, j->s.len);
+    }
+    return total;
+}
+
 /* ---- Timing ---- */
 
 typedef uint64_t (*run)(const struct face *, struct job *, unsigned);
@@ -274,11 +305,13 @@ static struct result measure(run r, const struct face *rival, struct job *j)
 struct kind {
     const char *name;
     unsigned (*make)(struct shape *, unsigned nodes, unsigned made);
+    run only; /* timed there; NULL for every call */
 };
 
 static const struct kind kinds[] = {
-    { "chain", shape_chain }, { "fork", shape_fork }, { "bushy", shape_bushy },
-    { "empty", shape_empty }
+    { "chain", shape_chain, NULL }, { "fork", shape_fork, NULL },
+    { "bushy", shape_bushy, NULL }, { "empty", shape_empty, NULL },
+    { "line", shape_line, run_step }
 };
 
 /* A variable that is bound near the end of the chain, and one that nobody
@@ -289,6 +322,10 @@ enum { NEAR = 5, NOBODY = SHAPE_UNBOUND_BY_NODES };
    round; or the last node and its parent. */
 enum places { LAST, FLIPPED, NEXT };
 
+/* A walk to the other place, and the steps of it that are made already. On the
+   empty store one step is all of it, and a second is refused. */
+enum walks { NO_WALK, BEGUN, ONE_STEP };
+
 struct row {
     const char *name;
     run run;
@@ -296,22 +333,26 @@ struct row {
     unsigned x;
     unsigned room; /* environments not made */
     enum places places;
+    enum walks walk;
 };
 
 static const struct row rows[] = {
-    { "open", run_open, OPENS, 0, 0, LAST },
-    { "bind", run_bind, CHECKS, 0, 1, LAST },
-    { "wind", run_wind, CHECKS, 0, 1, LAST },
-    { "look", run_look, CHECKS, NEAR, 0, LAST },
-    { "look, nobody binds", run_look, CHECKS, NOBODY, 0, LAST },
-    { "peek in", run_peek, CHECKS, NOBODY, 0, LAST },
-    { "peek out", run_peek, CHECKS, NOBODY, 0, FLIPPED },
-    { "set", run_set, CHECKS, NEAR, 0, LAST },
-    { "here", run_here, CHECKS, 0, 0, LAST },
-    { "far", run_far, CHECKS, 0, 0, LAST },
-    { "far, parent", run_far, CHECKS, 0, 0, NEXT },
-    { "goto", run_goto, SWITCHES, 0, 0, LAST },
-    { "back", run_back, SWITCHES, 0, 0, LAST }
+    { "open", run_open, OPENS, 0, 0, LAST, NO_WALK },
+    { "bind", run_bind, CHECKS, 0, 1, LAST, NO_WALK },
+    { "wind", run_wind, CHECKS, 0, 1, LAST, NO_WALK },
+    { "look", run_look, CHECKS, NEAR, 0, LAST, NO_WALK },
+    { "look, nobody binds", run_look, CHECKS, NOBODY, 0, LAST, NO_WALK },
+    { "peek in", run_peek, CHECKS, NOBODY, 0, LAST, NO_WALK },
+    { "peek out", run_peek, CHECKS, NOBODY, 0, FLIPPED, NO_WALK },
+    { "set", run_set, CHECKS, NEAR, 0, LAST, NO_WALK },
+    { "here", run_here, CHECKS, 0, 0, LAST, NO_WALK },
+    { "far", run_far, CHECKS, 0, 0, LAST, NO_WALK },
+    { "far, parent", run_far, CHECKS, 0, 0, NEXT, NO_WALK },
+    { "goto", run_goto, SWITCHES, 0, 0, LAST, NO_WALK },
+    { "back", run_back, SWITCHES, 0, 0, LAST, NO_WALK },
+    { "begin, drop", run_begin, CHECKS, 0, 0, LAST, NO_WALK },
+    { "step", run_step, SWITCHES, 0, 0, LAST, BEGUN },
+    { "step, the second", run_step, SWITCHES, 0, 0, FLIPPED, ONE_STEP }
 };
 
 enum { KINDS = sizeof kinds / sizeof kinds[0], ROWS = sizeof rows / sizeof rows[0] };
@@ -349,6 +390,10 @@ static void prepare(struct job *j, const struct kind *kind, const struct row *ro
         j->focus = away;
         j->other = last;
     }
+    if (row->walk != NO_WALK)
+        kn_begin(j->s.store, j->s.len, j->other);
+    if (row->walk == ONE_STEP)
+        kn_step(j->s.store, j->s.len);
 }
 
 static double line(const struct kind *kind, const struct row *row,
@@ -365,6 +410,11 @@ static double line(const struct kind *kind, const struct row *row,
     return r.ratio;
 }
 
+static int is_timed(const struct kind *kind, const struct row *row)
+{
+    return kind->only == NULL || kind->only == row->run;
+}
+
 /* Every call beside this rival; the worst ratio. */
 static double beside(const struct kind *kind, unsigned rival)
 {
@@ -372,7 +422,7 @@ static double beside(const struct kind *kind, unsigned rival)
     unsigned r;
 
     for (r = 0; r < ROWS; r++)
-        if (rows[r].beside >> rival & 1) {
+        if (is_timed(kind, &rows[r]) && rows[r].beside >> rival & 1) {
             double ratio = line(kind, &rows[r], &rivals[rival], KN_MAX_NODES);
             if (ratio > worst)
                 worst = ratio;
@@ -388,7 +438,9 @@ static void every_call(const struct kind *kind)
     for (r = 0; r < RIVALS; r++)
         worst[r] = beside(kind, r);
     for (r = 0; r < RIVALS; r++)
-        printf("worst ratio, %s%s: %.2f\n", kind->name, rivals[r].name, worst[r]);
+        if (worst[r] > 0)
+            printf("worst ratio, %s%s: %.2f\n", kind->name, rivals[r].name,
+                   worst[r]);
 }
 
 /* Each call beside its first rival. */

@@ -53,19 +53,25 @@ int check(int good, const char *what)
     return good;
 }
 
+static void show_answer(const char *which, kn_answer r)
+{
+    printf("     %s code=%u out=%d moves=%u events=%u by=%u thunk=%u event=%u\n",
+           which, (unsigned)r.code, (int)r.out, (unsigned)r.moves,
+           (unsigned)r.events, (unsigned)r.by, (unsigned)r.thunk,
+           (unsigned)r.event);
+}
+
 int check_answer(kn_answer got, kn_answer want, const char *what)
 {
     int good = got.code == want.code && got.out == want.out
                && got.moves == want.moves && got.events == want.events
-               && got.by == want.by;
+               && got.by == want.by && got.thunk == want.thunk
+               && got.event == want.event;
 
-    if (!check(good, what) && failures <= SHOWN)
-        printf("     got code=%u out=%d moves=%u events=%u by=%u,"
-               " want code=%u out=%d moves=%u events=%u by=%u\n",
-               (unsigned)got.code, (int)got.out, (unsigned)got.moves,
-               (unsigned)got.events, (unsigned)got.by, (unsigned)want.code,
-               (int)want.out, (unsigned)want.moves, (unsigned)want.events,
-               (unsigned)want.by);
+    if (!check(good, what) && failures <= SHOWN) {
+        show_answer("got ", got);
+        show_answer("want", want);
+    }
     return good;
 }
 
@@ -77,19 +83,30 @@ int check_report(void)
 
 kn_answer done(int32_t out, uint32_t moves, uint32_t events)
 {
-    kn_answer r = { out, KN_DONE, (uint16_t)moves, (uint16_t)events, 0 };
+    kn_answer r = {
+        out, KN_DONE, (uint16_t)moves, (uint16_t)events, 0, 0, 0
+    };
+    return r;
+}
+
+kn_answer told(int32_t place, uint32_t moves, uint32_t event, uint32_t thunk)
+{
+    kn_answer r = done(place, moves, 1);
+
+    r.thunk = (uint16_t)thunk;
+    r.event = (uint16_t)event;
     return r;
 }
 
 kn_answer seen(int32_t value, uint32_t by)
 {
-    kn_answer r = { value, KN_DONE, 0, 0, (uint16_t)by };
+    kn_answer r = { value, KN_DONE, 0, 0, (uint16_t)by, 0, 0 };
     return r;
 }
 
 kn_answer refused(uint32_t code)
 {
-    kn_answer r = { 0, (uint16_t)code, 0, 0, 0 };
+    kn_answer r = { 0, (uint16_t)code, 0, 0, 0, 0, 0 };
     return r;
 }
 
@@ -184,7 +201,8 @@ int lent_same(const struct lent *l)
 /* ---- Calls ---- */
 
 const char *const call_name[CALL_KINDS] = {
-    "bind", "wind", "look", "set", "here", "goto", "back", "peek", "far"
+    "bind", "wind", "look", "set", "here", "goto", "back", "peek", "far",
+    "begin", "step", "drop"
 };
 
 /* A number around a limit: mostly below it, at times the limit or far off. */
@@ -228,7 +246,10 @@ kn_answer run_call(const struct call *c)
     case GOTO: return kn_goto(s, n, t, k, c->a);
     case BACK: return kn_back(s, n, t, k);
     case PEEK: return kn_peek(s, n, c->a, c->x);
-    default: return kn_far(s, n, c->a, c->b);
+    case FAR: return kn_far(s, n, c->a, c->b);
+    case BEGIN: return kn_begin(s, n, c->a);
+    case STEP: return kn_step(s, n);
+    default: return kn_drop(s, n);
     }
 }
 
@@ -340,10 +361,34 @@ void chance_store(struct model *m, unsigned vars, unsigned nodes,
     m->nodes = nodes;
     m->made = made;
     m->focus = chance(made);
+    m->walking = 0;
+    m->target = m->wind = 0;
     for (x = 0; x < vars; x++)
         m->top[x] = chance_cell();
     for (n = 1; n < made; n++)
         chance_node(m, n);
     lent_take(&store, KN_SIZE(vars, nodes) + spare);
+    model_write(m, store.bytes);
+}
+
+/* The child of the focus on the target's path; 0 if there is none. */
+static unsigned next_to_enter(const struct model *m)
+{
+    unsigned n = m->target;
+
+    while (n != 0 && m->node[n].parent != m->focus)
+        n = m->node[n].parent;
+    return n;
+}
+
+void chance_walk(struct model *m)
+{
+    unsigned next;
+
+    m->walking = 1;
+    m->target = chance(m->made);
+    next = next_to_enter(m);
+    if (next != 0 && m->node[next].wind && chance(2) == 0)
+        m->wind = next;
     model_write(m, store.bytes);
 }

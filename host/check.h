@@ -16,6 +16,7 @@ int  check_answer(kn_answer got, kn_answer want, const char *what);
 int  check_report(void);            /* prints the counts; an exit status   */
 
 kn_answer done(int32_t out, uint32_t moves, uint32_t events);
+kn_answer told(int32_t place, uint32_t moves, uint32_t event, uint32_t thunk);
 kn_answer seen(int32_t value, uint32_t by);
 kn_answer refused(uint32_t code);
 
@@ -79,17 +80,23 @@ void chance_tops(uint8_t *tops, unsigned vars);
 void chance_open(struct model *m, unsigned vars, unsigned nodes, size_t spare);
 
 /* A random meaning with so many environments made, bindings that are unbound
-   among them; the lent store becomes its bytes, with spare bytes after. */
+   among them, and no walk; the lent store becomes its bytes, with spare bytes
+   after. */
 void chance_store(struct model *m, unsigned vars, unsigned nodes,
                   unsigned made, size_t spare);
+
+/* The same store in a walk, which may have a wind handed over. */
+void chance_walk(struct model *m);
 
 /* ---- The tests ---- */
 
 void test_face(void);
 void test_edges(void);
 void test_clauses(void);
+void test_walks(void);
 void test_damage(void);
 void test_runs(void);
 void test_doors(void);
+void test_drawn_walks(void);
 
 #endif

@@ -62,7 +62,7 @@ static void path_from(const struct model *m, unsigned a, struct path *p)
 
 static size_t size_of(uint32_t vars, uint32_t nodes)
 {
-    return 8 + 5 * (size_t)vars + 14 * (size_t)nodes;
+    return 12 + 5 * (size_t)vars + 14 * (size_t)nodes;
 }
 
 static size_t place_of_node(const uint8_t *b, unsigned n)
@@ -82,7 +82,7 @@ static int header_good(const uint8_t *b, size_t len)
 {
     uint32_t vars, nodes, made, focus;
 
-    if (len < 8)
+    if (len < 12)
         return 0;
     vars = number(b, 0, 2);
     nodes = number(b, 2, 2);
@@ -116,6 +116,11 @@ static int wind_good(const uint8_t *node)
     return node[1] == 0 && zero(node, 8, 12);
 }
 
+static unsigned parent_in(const uint8_t *b, unsigned n)
+{
+    return number(b, place_of_node(b, n) + 2, 2);
+}
+
 static unsigned depth_in(const uint8_t *b, unsigned n)
 {
     return number(b, place_of_node(b, n) + 12, 2);
@@ -124,7 +129,7 @@ static unsigned depth_in(const uint8_t *b, unsigned n)
 /* The parent is below n, and n one deeper. */
 static int parent_good(const uint8_t *b, unsigned n)
 {
-    unsigned parent = number(b, place_of_node(b, n) + 2, 2);
+    unsigned parent = parent_in(b, n);
 
     return parent < n && depth_in(b, n) == depth_in(b, parent) + 1;
 }
@@ -158,7 +163,7 @@ static int modes_good(const uint8_t *b)
     uint8_t on_path[KN_MAX_NODES] = { 0 };
     unsigned n, made = number(b, 4, 2);
 
-    for (n = number(b, 6, 2); n != 0; n = number(b, place_of_node(b, n) + 2, 2))
+    for (n = number(b, 6, 2); n != 0; n = parent_in(b, n))
         on_path[n] = 1;
     for (n = 1; n < made; n++)
         if (b[place_of_node(b, n)] % 2 != on_path[n])
@@ -166,11 +171,32 @@ static int modes_good(const uint8_t *b)
     return 1;
 }
 
+/* The child of the focus on the target's path; 0 if there is none. */
+static unsigned next_in(const uint8_t *b, unsigned focus, unsigned target)
+{
+    while (target != 0 && parent_in(b, target) != focus)
+        target = parent_in(b, target);
+    return target;
+}
+
+/* No walk; or one to a target that is made, with no wind handed over, or with
+   the next node to be entered, a wind. */
+static int walk_good(const uint8_t *b)
+{
+    unsigned target = number(b, 8, 2), wind = number(b, 10, 2);
+
+    if (target == 65535 || wind == 65535)
+        return wind == 65535 && (target == 65535 || target < number(b, 4, 2));
+    return target < number(b, 4, 2) && wind != 0
+           && wind == next_in(b, number(b, 6, 2), target)
+           && b[place_of_node(b, wind)] == 4;
+}
+
 int model_sound(const uint8_t *bytes, size_t len)
 {
     return header_good(bytes, len)
-           && cells_good(bytes + 8, number(bytes, 0, 2))
-           && nodes_good(bytes) && modes_good(bytes);
+           && cells_good(bytes + 12, number(bytes, 0, 2))
+           && nodes_good(bytes) && modes_good(bytes) && walk_good(bytes);
 }
 
 /* ---- From bytes to meaning ---- */
@@ -183,7 +209,7 @@ static struct model_value value_in(const uint8_t *state, const uint8_t *value)
 
 static struct model_value cell_in(const uint8_t *b, unsigned x)
 {
-    const uint8_t *cell = b + 8 + 5 * (size_t)x;
+    const uint8_t *cell = b + 12 + 5 * (size_t)x;
     return value_in(cell, cell + 1);
 }
 
@@ -223,6 +249,15 @@ static void read_node(struct model *m, const uint8_t *b, unsigned n)
     }
 }
 
+static void read_walk(struct model *m, const uint8_t *b)
+{
+    unsigned target = number(b, 8, 2), wind = number(b, 10, 2);
+
+    m->walking = target != 65535;
+    m->target = m->walking ? target : 0;
+    m->wind = wind != 65535 ? wind : 0;
+}
+
 void model_read(struct model *m, const uint8_t *bytes)
 {
     struct path in;
@@ -232,6 +267,7 @@ void model_read(struct model *m, const uint8_t *bytes)
     m->nodes = number(bytes, 2, 2);
     m->made = number(bytes, 4, 2);
     m->focus = number(bytes, 6, 2);
+    read_walk(m, bytes);
     for (n = 1; n < m->made; n++)
         read_node(m, bytes, n);
     path_from(m, m->focus, &in);
@@ -284,8 +320,10 @@ void model_write(const struct model *m, uint8_t *bytes)
     spell(bytes, 2, 2, m->nodes);
     spell(bytes, 4, 2, m->made);
     spell(bytes, 6, 2, m->focus);
+    spell(bytes, 8, 2, m->walking ? m->target : 65535);
+    spell(bytes, 10, 2, m->wind != 0 ? m->wind : 65535);
     for (x = 0; x < m->vars; x++) {
-        uint8_t *cell = bytes + 8 + 5 * (size_t)x;
+        uint8_t *cell = bytes + 12 + 5 * (size_t)x;
         write_value(cell, cell + 1, model_value_at(m, m->focus, x));
     }
     memset(bytes + place_of_node(bytes, 0), 0, 14 * (size_t)m->nodes);
@@ -326,27 +364,55 @@ static void note(struct model_events *e, int entering, unsigned thunk,
     e->event[e->count++] = event;
 }
 
-/* The moves from one environment to another, its events in e: leaving, inner
-   first, then entering, outer first. */
+/* Moves in their order: each leaves a node or enters it. */
+struct model_move { int entering; unsigned node; };
+struct moves { unsigned count; struct model_move move[KN_MAX_NODES]; };
+
+static void add_move(struct moves *w, int entering, unsigned node)
+{
+    struct model_move move = { entering, node };
+    w->move[w->count++] = move;
+}
+
+/* The moves from one environment to another: leaving, inner first, then
+   entering, outer first. */
+static void moves_between(const struct model *m, unsigned from, unsigned to,
+                          struct moves *w)
+{
+    unsigned entered[KN_MAX_NODES], entering = 0, n;
+    struct path left, reached;
+
+    w->count = 0;
+    path_from(m, from, &left);
+    path_from(m, to, &reached);
+    for (n = from; n != 0 && !reached.has[n]; n = m->node[n].parent)
+        add_move(w, 0, n);
+    for (n = to; n != 0 && !left.has[n]; n = m->node[n].parent)
+        entered[entering++] = n;
+    while (entering-- > 0)
+        add_move(w, 1, entered[entering]);
+}
+
+static unsigned thunk_of(const struct model *m, struct model_move move)
+{
+    const struct model_node *node = &m->node[move.node];
+
+    return move.entering ? node->prelude : node->postlude;
+}
+
+/* The number of moves from one environment to another, their events in e. */
 static unsigned route(const struct model *m, unsigned from, unsigned to,
                       struct model_events *e)
 {
-    unsigned entered[KN_MAX_NODES], entering = 0, moves = 0, n;
-    struct path left, reached;
+    struct moves w;
+    unsigned i;
 
-    path_from(m, from, &left);
-    path_from(m, to, &reached);
-    for (n = from; n != 0 && !reached.has[n]; n = m->node[n].parent, moves++)
-        if (m->node[n].wind)
-            note(e, 0, m->node[n].postlude, place_of_thunks(m, n));
-    for (n = to; n != 0 && !left.has[n]; n = m->node[n].parent, moves++)
-        entered[entering++] = n;
-    while (entering-- > 0) {
-        n = entered[entering];
-        if (m->node[n].wind)
-            note(e, 1, m->node[n].prelude, place_of_thunks(m, n));
-    }
-    return moves;
+    moves_between(m, from, to, &w);
+    for (i = 0; i < w.count; i++)
+        if (m->node[w.move[i].node].wind)
+            note(e, w.move[i].entering, thunk_of(m, w.move[i]),
+                 place_of_thunks(m, w.move[i].node));
+    return w.count;
 }
 
 /* ---- The calls ---- */
@@ -354,7 +420,9 @@ static unsigned route(const struct model *m, unsigned from, unsigned to,
 static kn_answer answer(uint32_t code, int32_t out, unsigned moves,
                         unsigned events)
 {
-    kn_answer r = { out, (uint16_t)code, (uint16_t)moves, (uint16_t)events, 0 };
+    kn_answer r = {
+        out, (uint16_t)code, (uint16_t)moves, (uint16_t)events, 0, 0, 0
+    };
     return r;
 }
 
@@ -373,17 +441,28 @@ static int takes_variable(enum call_kind k)
 
 static int takes_environment(enum call_kind k)
 {
-    return k == GOTO || k == PEEK || k == FAR;
+    return k == GOTO || k == PEEK || k == FAR || k == BEGIN;
 }
 
 static int takes_two(enum call_kind k) { return k == FAR; }
 static int wants_value(enum call_kind k) { return k == LOOK || k == SET || k == PEEK; }
 static int makes(enum call_kind k) { return k == BIND || k == WIND; }
+static int wants_walk(enum call_kind k) { return k == STEP || k == DROP; }
 
-/* The lowest number that applies to a call that would write these events. */
+static int wants_no_walk(enum call_kind k)
+{
+    return makes(k) || k == GOTO || k == BACK || k == BEGIN;
+}
+
+/* The first number that applies to a call that would write these events: the
+   walk's two, then the lowest. */
 static uint32_t refusal(const struct model *m, const struct call *c,
                         unsigned events, size_t trace_len)
 {
+    if (m->walking && wants_no_walk(c->kind))
+        return KN_WALKING;
+    if (!m->walking && wants_walk(c->kind))
+        return KN_NOT_WALKING;
     if (takes_variable(c->kind) && c->x >= m->vars)
         return KN_NO_VARIABLE;
     if (takes_environment(c->kind) && c->a >= m->made)
@@ -438,6 +517,52 @@ static void set_value(struct model *m, unsigned x, int32_t v)
     decides->value = v;
 }
 
+static void begin_walk(struct model *m, unsigned a)
+{
+    m->walking = 1;
+    m->target = a;
+}
+
+static void end_walk(struct model *m)
+{
+    m->walking = 0;
+    m->target = m->wind = 0;
+}
+
+static kn_answer hand_over(const struct model *m, unsigned moves,
+                           struct model_move move)
+{
+    kn_answer r = answer(KN_DONE, (int32_t)m->focus, moves, 1);
+
+    r.thunk = (uint16_t)thunk_of(m, move);
+    r.event = move.entering ? KN_ENTERING : KN_LEAVING;
+    return r;
+}
+
+/* Along the way to the target up to the first wind: once it is left, or before
+   it is entered, unless that was handed over already. */
+static kn_answer step(struct model *m)
+{
+    unsigned i, told = m->wind;
+    struct moves w;
+
+    moves_between(m, m->focus, m->target, &w);
+    m->wind = 0;
+    for (i = 0; i < w.count; i++) {
+        struct model_move move = w.move[i];
+        const struct model_node *node = &m->node[move.node];
+        if (move.entering && node->wind && move.node != told) {
+            m->wind = move.node;
+            return hand_over(m, i, move);
+        }
+        m->focus = move.entering ? move.node : node->parent;
+        if (!move.entering && node->wind)
+            return hand_over(m, i + 1, move);
+    }
+    end_walk(m);
+    return answer(KN_DONE, (int32_t)m->focus, w.count, 0);
+}
+
 kn_answer model_call(struct model *m, const struct call *c, size_t trace_len,
                      struct model_events *events)
 {
@@ -457,6 +582,9 @@ kn_answer model_call(struct model *m, const struct call *c, size_t trace_len,
     case LOOK: return value_answer(m, m->focus, c->x);
     case PEEK: return value_answer(m, c->a, c->x);
     case FAR: return answer(KN_DONE, (int32_t)how_far(m, c->a, c->b), 0, 0);
+    case STEP: return step(m);
+    case BEGIN: begin_walk(m, c->a); break;
+    case DROP: end_walk(m); break;
     case SET: set_value(m, c->x, c->v); break;
     case BIND: case WIND: make_node(m, c); break;
     default: m->focus = to;
@@ -477,6 +605,7 @@ kn_answer model_open(struct model *m, uint32_t vars, uint32_t nodes,
     m->nodes = nodes;
     m->made = 1;
     m->focus = 0;
+    end_walk(m);
     for (x = 0; x < vars; x++)
         m->top[x] = value_in(tops + 5 * (size_t)x, tops + 5 * (size_t)x + 1);
     return answer(KN_DONE, 0, 0, 0);

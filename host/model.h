@@ -20,11 +20,15 @@ struct model {
     unsigned vars, nodes, made, focus;
     struct model_value top[KN_MAX_VARS];
     struct model_node node[KN_MAX_NODES]; /* node[0], the top, is unused */
+    int walking;
+    unsigned target; /* of a walk                                        */
+    unsigned wind;   /* of a walk: handed over, not yet entered; else 0  */
 };
 
 /* One call but open. Each call reads the arguments that it has. */
 enum call_kind {
-    BIND, WIND, LOOK, SET, HERE, GOTO, BACK, PEEK, FAR, CALL_KINDS
+    BIND, WIND, LOOK, SET, HERE, GOTO, BACK, PEEK, FAR, BEGIN, STEP, DROP,
+    CALL_KINDS
 };
 
 struct call {
@@ -56,8 +60,8 @@ struct model_value model_value_at(const struct model *m, unsigned a, unsigned x)
 kn_answer model_open(struct model *m, uint32_t vars, uint32_t nodes,
                      const uint8_t *tops, size_t tops_len, size_t store_len);
 
-/* A call's answer and events on a sound store lent with trace_len bytes of
-   trace; m becomes the meaning after it. */
+/* A call's answer and the events that it writes, on a sound store lent with
+   trace_len bytes of trace; m becomes the meaning after it. */
 kn_answer model_call(struct model *m, const struct call *c, size_t trace_len,
                      struct model_events *events);
 

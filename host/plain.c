@@ -7,6 +7,7 @@
 #include <string.h>
 
 enum { BLANK, TOP, BINDING_OUT, BINDING_IN, WIND_OUT, WIND_IN };
+enum { NONE = 65535 }; /* in place of a walk's target or wind */
 
 /* ---- Fields ---- */
 
@@ -81,6 +82,13 @@ static unsigned vars_of(const uint8_t *store) { return get16(store); }
 static unsigned room_of(const uint8_t *store) { return get16(store + 2); }
 static unsigned made_of(const uint8_t *store) { return get16(store + 4); }
 static unsigned focus_of(const uint8_t *store) { return get16(store + 6); }
+static unsigned target_of(const uint8_t *store) { return get16(store + 8); }
+static unsigned wind_of(const uint8_t *store) { return get16(store + 10); }
+
+static int walking(const uint8_t *store)
+{
+    return target_of(store) != NONE;
+}
 
 static unsigned focus_parent(const uint8_t *store)
 {
@@ -91,20 +99,33 @@ static unsigned focus_parent(const uint8_t *store)
 
 static kn_answer done(uint32_t out, uint32_t moves, uint32_t events)
 {
-    kn_answer r = { (int32_t)out, KN_DONE, (uint16_t)moves, (uint16_t)events, 0 };
+    kn_answer r = {
+        (int32_t)out, KN_DONE, (uint16_t)moves, (uint16_t)events, 0, 0, 0
+    };
+    return r;
+}
+
+/* An event handed over at this place. */
+static kn_answer hand_over(unsigned place, unsigned moves, unsigned event,
+                           unsigned thunk)
+{
+    kn_answer r = done(place, moves, 1);
+
+    r.thunk = (uint16_t)thunk;
+    r.event = (uint16_t)event;
     return r;
 }
 
 static kn_answer refuse(uint32_t code)
 {
-    kn_answer r = { 0, (uint16_t)code, 0, 0, 0 };
+    kn_answer r = { 0, (uint16_t)code, 0, 0, 0, 0, 0 };
     return r;
 }
 
 /* What a cell, or a stored cell, has to say, and who decides it. */
 static kn_answer cell_answer(unsigned state, uint32_t value, unsigned by)
 {
-    kn_answer r = { (int32_t)value, KN_DONE, 0, 0, (uint16_t)by };
+    kn_answer r = { (int32_t)value, KN_DONE, 0, 0, (uint16_t)by, 0, 0 };
 
     return state == 1 ? r : refuse(KN_UNBOUND);
 }
@@ -214,6 +235,44 @@ static int nodes_sound(const uint8_t *nodes, unsigned vars, unsigned made,
                  : path_counted(nodes, focus, in);
 }
 
+static unsigned depth_at(const uint8_t *nodes, unsigned n)
+{
+    return depth_of(nodes + (size_t)n * KN_NODE_BYTES);
+}
+
+/* Up from n, which is so deep, until it is only so deep. */
+static unsigned climb_by_depth(const uint8_t *nodes, unsigned n, unsigned deep,
+                               unsigned only)
+{
+    for (; deep > only; deep--)
+        n = parent_of(nodes + (size_t)n * KN_NODE_BYTES);
+    return n;
+}
+
+/* A wind that was handed over: a child of the focus, on the target's path. */
+static int wind_sound(const uint8_t *nodes, unsigned wind, unsigned focus,
+                      unsigned target)
+{
+    const uint8_t *node = nodes + (size_t)wind * KN_NODE_BYTES;
+
+    return is_wind(node[0]) && parent_of(node) == focus
+           && climb_by_depth(nodes, target, depth_at(nodes, target),
+                             depth_of(node)) == wind;
+}
+
+static int walk_sound(const uint8_t *store, unsigned made)
+{
+    unsigned target = target_of(store), wind = wind_of(store);
+
+    if (target == NONE)
+        return wind == NONE;
+    if (target >= made)
+        return 0;
+    return wind == NONE
+           || (wind < made && wind_sound(store + nodes_at(store), wind,
+                                         focus_of(store), target));
+}
+
 static int sound(const uint8_t *store, size_t len)
 {
     unsigned vars, room, made, focus;
@@ -233,7 +292,8 @@ static int sound(const uint8_t *store, size_t len)
     return cells_sound(store + KN_HEADER_BYTES, vars)
            && nodes_sound(nodes, vars, made, focus)
            && all_zero(nodes + (size_t)made * KN_NODE_BYTES,
-                       (size_t)(room - made) * KN_NODE_BYTES);
+                       (size_t)(room - made) * KN_NODE_BYTES)
+           && walk_sound(store, made);
 }
 
 /* ---- Moves ---- */
@@ -330,13 +390,18 @@ static void walk(struct walk *w, unsigned target)
 
 #endif
 
-/* What a way costs: its moves, and its events. */
-struct way { unsigned moves, events; };
+/* What a way up costs: its moves, and its events; and the last wind on it. */
+struct way { unsigned moves, events, wind; };
 
-static unsigned step_up(const uint8_t *node, struct way *way)
+static unsigned step_up(const uint8_t *nodes, unsigned n, struct way *way)
 {
+    const uint8_t *node = nodes + (size_t)n * KN_NODE_BYTES;
+
     way->moves++;
-    way->events += is_wind(node[0]);
+    if (is_wind(node[0])) {
+        way->events++;
+        way->wind = n;
+    }
     return parent_of(node);
 }
 
@@ -347,7 +412,7 @@ static unsigned climb_out(const uint8_t *nodes, unsigned n, struct way *way)
     const uint8_t *node = nodes + (size_t)n * KN_NODE_BYTES;
 
     while (is_out(node[0])) {
-        n = step_up(node, way);
+        n = step_up(nodes, n, way);
         node = nodes + (size_t)n * KN_NODE_BYTES;
     }
     return n;
@@ -358,14 +423,14 @@ static void climb_to(const uint8_t *nodes, unsigned n, unsigned above,
                      struct way *way)
 {
     while (n != above)
-        n = step_up(nodes + (size_t)n * KN_NODE_BYTES, way);
+        n = step_up(nodes, n, way);
 }
 
 static kn_answer switch_to(uint8_t *store, uint8_t *trace, size_t trace_len,
                            unsigned target)
 {
     struct walk w = { store, store + nodes_at(store), trace };
-    struct way way = { 0, 0 };
+    struct way way = { 0, 0, NONE };
     unsigned meet = climb_out(w.nodes, target, &way);
 
     climb_to(w.nodes, focus_of(store), meet, &way);
@@ -388,6 +453,8 @@ kn_answer pl_open(uint32_t vars, uint32_t nodes,
     put16(store + 2, nodes);
     put16(store + 4, 1);
     put16(store + 6, 0);
+    put16(store + 8, NONE);
+    put16(store + 10, NONE);
     memcpy(store + KN_HEADER_BYTES, tops, tops_len);
     memset(store + nodes_at(store), 0, (size_t)nodes * KN_NODE_BYTES);
     store[nodes_at(store)] = TOP;
@@ -414,6 +481,8 @@ kn_answer pl_bind(uint8_t *store, size_t store_len, uint32_t x, int32_t v)
 
     if (!sound(store, store_len))
         return refuse(KN_DAMAGED);
+    if (walking(store))
+        return refuse(KN_WALKING);
     if (x >= vars_of(store))
         return refuse(KN_NO_VARIABLE);
     if (made_of(store) == room_of(store))
@@ -434,6 +503,8 @@ kn_answer pl_wind(uint8_t *store, size_t store_len,
 
     if (!sound(store, store_len))
         return refuse(KN_DAMAGED);
+    if (walking(store))
+        return refuse(KN_WALKING);
     if (made_of(store) == room_of(store))
         return refuse(KN_FULL);
     if (trace_len < KN_EVENT_BYTES)
@@ -497,15 +568,6 @@ kn_answer pl_here(const uint8_t *store, size_t store_len)
     return done(focus_of(store), 0, 0);
 }
 
-/* Up from n, which is so deep, until it is only so deep. */
-static unsigned climb_by_depth(const uint8_t *nodes, unsigned n, unsigned deep,
-                               unsigned only)
-{
-    for (; deep > only; deep--)
-        n = parent_of(nodes + (size_t)n * KN_NODE_BYTES);
-    return n;
-}
-
 /* Up from a and b, both so deep, until they meet; how deep that is. */
 static unsigned meeting_depth(const uint8_t *nodes, unsigned a, unsigned b,
                               unsigned deep)
@@ -520,8 +582,7 @@ static unsigned meeting_depth(const uint8_t *nodes, unsigned a, unsigned b,
 /* With one of the two the top, there is nothing to climb for. */
 static unsigned apart(const uint8_t *nodes, unsigned a, unsigned b)
 {
-    unsigned deep_a = depth_of(nodes + (size_t)a * KN_NODE_BYTES);
-    unsigned deep_b = depth_of(nodes + (size_t)b * KN_NODE_BYTES);
+    unsigned deep_a = depth_at(nodes, a), deep_b = depth_at(nodes, b);
     unsigned level = deep_a < deep_b ? deep_a : deep_b;
 
     if (level == 0)
@@ -546,6 +607,8 @@ kn_answer pl_goto(uint8_t *store, size_t store_len,
 {
     if (!sound(store, store_len))
         return refuse(KN_DAMAGED);
+    if (walking(store))
+        return refuse(KN_WALKING);
     if (a >= made_of(store))
         return refuse(KN_NO_ENVIRONMENT);
     return switch_to(store, trace, trace_len, a);
@@ -556,9 +619,111 @@ kn_answer pl_back(uint8_t *store, size_t store_len,
 {
     if (!sound(store, store_len))
         return refuse(KN_DAMAGED);
+    if (walking(store))
+        return refuse(KN_WALKING);
     if (focus_of(store) == 0)
         return refuse(KN_TOP);
     return switch_to(store, trace, trace_len, focus_parent(store));
+}
+
+/* The event that a walk comes to next: the wind, how it is met, where the
+   focus is then and the moves up to there. Without one wind is NONE, and the
+   place is the target. */
+struct stop { unsigned wind, event, place, moves; };
+
+/* Up from n to a node above it, or to the first wind before. */
+static unsigned climb_to_wind(const uint8_t *nodes, unsigned n, unsigned above)
+{
+    const uint8_t *node = nodes + (size_t)n * KN_NODE_BYTES;
+
+    while (n != above && !is_wind(node[0])) {
+        n = parent_of(node);
+        node = nodes + (size_t)n * KN_NODE_BYTES;
+    }
+    return n;
+}
+
+static struct stop next_stop(const uint8_t *nodes, unsigned focus,
+                             unsigned target)
+{
+    struct way out = { 0, 0, NONE };
+    unsigned meet = climb_out(nodes, target, &out);
+    unsigned left = climb_to_wind(nodes, focus, meet);
+    struct stop s = { out.wind, KN_ENTERING, target, 0 };
+
+    if (left != meet) {
+        s.wind = left;
+        s.event = KN_LEAVING;
+        meet = parent_of(nodes + (size_t)left * KN_NODE_BYTES);
+    }
+    if (s.wind != NONE)
+        s.place = parent_of(nodes + (size_t)s.wind * KN_NODE_BYTES);
+    s.moves = depth_at(nodes, focus) + depth_at(nodes, s.place)
+              - 2 * depth_at(nodes, meet);
+    return s;
+}
+
+kn_answer pl_begin(uint8_t *store, size_t store_len, uint32_t a)
+{
+    if (!sound(store, store_len))
+        return refuse(KN_DAMAGED);
+    if (walking(store))
+        return refuse(KN_WALKING);
+    if (a >= made_of(store))
+        return refuse(KN_NO_ENVIRONMENT);
+    put16(store + 8, a);
+    return done(focus_of(store), 0, 0);
+}
+
+/* Enters the wind that was handed over, if there is one; the moves. */
+static unsigned enter_handed_over(struct walk *w)
+{
+    unsigned wind = wind_of(w->store);
+
+    if (wind == NONE)
+        return 0;
+    enter(w, wind);
+    put16(w->store + 10, NONE);
+    return 1;
+}
+
+/* The walk's own events, one a step at most, are told to nobody. */
+kn_answer pl_step(uint8_t *store, size_t store_len)
+{
+    uint8_t untold[KN_EVENT_BYTES];
+    struct walk w = { store, NULL, untold };
+    const uint8_t *wind;
+    unsigned entered;
+    struct stop s;
+
+    if (!sound(store, store_len))
+        return refuse(KN_DAMAGED);
+    if (!walking(store))
+        return refuse(KN_NOT_WALKING);
+    w.nodes = store + nodes_at(store);
+    entered = enter_handed_over(&w);
+    s = next_stop(w.nodes, focus_of(store), target_of(store));
+    walk(&w, s.place);
+    if (s.wind == NONE) {
+        put16(store + 8, NONE);
+        return done(s.place, entered + s.moves, 0);
+    }
+    wind = w.nodes + (size_t)s.wind * KN_NODE_BYTES;
+    if (s.event == KN_LEAVING)
+        return hand_over(s.place, s.moves, KN_LEAVING, postlude_of(wind));
+    put16(store + 10, s.wind);
+    return hand_over(s.place, entered + s.moves, KN_ENTERING, name_of(wind));
+}
+
+kn_answer pl_drop(uint8_t *store, size_t store_len)
+{
+    if (!sound(store, store_len))
+        return refuse(KN_DAMAGED);
+    if (!walking(store))
+        return refuse(KN_NOT_WALKING);
+    put16(store + 8, NONE);
+    put16(store + 10, NONE);
+    return done(focus_of(store), 0, 0);
 }
 
 /* The value of a decider that is in, or of the top: what the last binding of

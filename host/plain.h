@@ -28,6 +28,9 @@
                             uint8_t *trace, size_t trace_len, uint32_t a);  \
     kn_answer prefix##_back(uint8_t *store, size_t store_len,               \
                             uint8_t *trace, size_t trace_len);              \
+    kn_answer prefix##_begin(uint8_t *store, size_t store_len, uint32_t a); \
+    kn_answer prefix##_step(uint8_t *store, size_t store_len);              \
+    kn_answer prefix##_drop(uint8_t *store, size_t store_len);              \
     uint32_t  prefix##_limit(uint32_t which)
 
 PLAIN_CALLS(pl);

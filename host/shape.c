@@ -53,6 +53,19 @@ unsigned shape_chain(struct shape *s, unsigned nodes, unsigned made)
     return 0;
 }
 
+/* A wind first, then bindings, each below the one before. */
+unsigned shape_line(struct shape *s, unsigned nodes, unsigned made)
+{
+    unsigned n;
+
+    shape_empty(s, nodes, 1);
+    if (made > 1)
+        must(kn_wind(s->store, s->len, s->trace, sizeof s->trace, 1, 2));
+    for (n = 2; n < made; n++)
+        must(kn_bind(s->store, s->len, n % SHAPE_UNBOUND_BY_NODES, (int32_t)n));
+    return 0;
+}
+
 /* Every node has two children. */
 unsigned shape_bushy(struct shape *s, unsigned nodes, unsigned made)
 {

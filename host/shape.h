@@ -11,12 +11,13 @@ struct shape {
 };
 
 /* All have KN_MAX_VARS variables, each with a top value; no node binds the
-   last one. Every fourth node is a wind. The focus is the last node made; the
-   answer is a place far from it. */
+   last one. Every fourth node is a wind, of the line the first alone. The focus
+   is the last node made; the answer is a place far from it. */
 enum { SHAPE_UNBOUND_BY_NODES = KN_MAX_VARS - 1 };
 
 unsigned shape_empty(struct shape *s, unsigned nodes, unsigned made);
 unsigned shape_chain(struct shape *s, unsigned nodes, unsigned made);
+unsigned shape_line(struct shape *s, unsigned nodes, unsigned made);
 unsigned shape_bushy(struct shape *s, unsigned nodes, unsigned made);
 unsigned shape_fork(struct shape *s, unsigned nodes, unsigned made);
 

@@ -64,6 +64,10 @@ static void call_peek_last(void)
 static void call_far_top(void) { answer = kn_far(s.store, s.len, LAST, 0); }
 static void call_far_across(void) { answer = kn_far(s.store, s.len, LAST, LAST / 2); }
 
+static void call_begin(void) { answer = kn_begin(s.store, s.len, LAST / 2); }
+static void call_step(void) { answer = kn_step(s.store, s.len); }
+static void call_drop(void) { answer = kn_drop(s.store, s.len); }
+
 /* ---- The stores they run on ---- */
 
 static void chain(void) { shape_chain(&s, N, N); }
@@ -74,6 +78,28 @@ static void chain_at_top(void)
 {
     shape_chain(&s, N, N);
     shape_focus(&s, 0);
+}
+
+static void chain_in_a_walk(void)
+{
+    shape_chain(&s, N, N);
+    kn_begin(s.store, s.len, 0);
+}
+
+/* The step is to leave all, the wind last. */
+static void line_to_leave(void)
+{
+    shape_line(&s, N, N);
+    kn_begin(s.store, s.len, 0);
+}
+
+/* The wind was handed over; the step is to enter all. */
+static void line_to_enter(void)
+{
+    shape_line(&s, N, N);
+    shape_focus(&s, 0);
+    kn_begin(s.store, s.len, LAST);
+    kn_step(s.store, s.len);
 }
 
 struct row {
@@ -96,7 +122,11 @@ static const struct row rows[] = {
     { "goto, 2,047 left", chain, call_goto_top, LAST },
     { "goto, 2,047 entered", chain_at_top, call_goto_last, LAST },
     { "goto, half left, half entered", fork_of_two, call_goto_across, LAST },
-    { "back", chain, call_back, 1 }
+    { "back", chain, call_back, 1 },
+    { "begin", chain, call_begin, 0 },
+    { "step, 2,047 left, to a wind", line_to_leave, call_step, LAST },
+    { "step, 2,047 entered, done", line_to_enter, call_step, LAST },
+    { "drop", chain_in_a_walk, call_drop, 0 }
 };
 
 /* ---- Measuring ---- */

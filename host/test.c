@@ -7,8 +7,10 @@ int main(void)
     test_face();
     test_edges();
     test_clauses();
+    test_walks();
     test_damage();
     test_runs();
     test_doors();
+    test_drawn_walks();
     return check_report();
 }

@@ -9,7 +9,10 @@ enum { VARS = 3, NODES = 8, FIRST_NODE = KN_HEADER_BYTES + VARS * KN_CELL_BYTES 
 /* Places in the store: the header's fields, cell x and node n. */
 #define CELL(x) (KN_HEADER_BYTES + (x) * KN_CELL_BYTES)
 #define NODE(n) (FIRST_NODE + (n) * KN_NODE_BYTES)
-enum { HEAD_VARS = 0, HEAD_NODES = 2, HEAD_MADE = 4, HEAD_FOCUS = 6 };
+enum {
+    HEAD_VARS = 0, HEAD_NODES = 2, HEAD_MADE = 4, HEAD_FOCUS = 6,
+    HEAD_TARGET = 8, HEAD_WIND = 10
+};
 enum {
     KIND = 0, STATE = 1, PARENT = 2, NAME = 4, POSTLUDE = 6, VALUE = 8, DEPTH = 12
 };
@@ -273,6 +276,86 @@ static void depths_from(const char *name, unsigned first, int by)
     every_call_refuses();
 }
 
+/* ---- Walks ---- */
+
+enum { NONE = 65535 };
+
+/* The focus, and what the header says of a walk: target and wind. The spare
+   bytes are a wind as well, child of the focus, which no walk may take. */
+static void lend_walk(unsigned focus, unsigned target, unsigned wind)
+{
+    struct model m;
+
+    base_store(&m, VARS, NODES);
+    m.focus = focus;
+    lend(&m, KN_NODE_BYTES);
+    memcpy(store.bytes + NODE(NODES), store.bytes + NODE(2), KN_NODE_BYTES);
+    put16(NODE(NODES) + PARENT, focus);
+    put16(HEAD_TARGET, target);
+    put16(HEAD_WIND, wind);
+}
+
+struct walk_clause { const char *name; unsigned focus, target, wind; };
+
+/* Wind 2 and binding 4 are 1's children, binding 3 is 2's, wind 5 is 4's. */
+static const struct walk_clause bad_walks[] = {
+    { "the target is the first blank node", 3, 6, NONE },
+    { "the target is the last blank node", 3, 7, NONE },
+    { "the target is N", 3, NODES, NONE },
+    { "the target is out of range by its high byte", 3, 256 + 2, NONE },
+    { "the target is 65,534", 3, NONE - 1, NONE },
+    { "a wind and no target", 1, NONE, 2 },
+    { "the top as the wind and no target", 1, NONE, 0 },
+    { "the wind is the first blank node", 0, 3, 6 },
+    { "the wind is N, past the last node", 1, 3, NODES },
+    { "the wind is out of range by its high byte", 1, 3, 256 + 2 },
+    { "the wind is 65,534", 1, 3, NONE - 1 },
+    { "the wind is the top", 0, 3, 0 },
+    { "the wind is the top, the focus below it", 1, 3, 0 },
+    { "the wind is a binding", 1, 5, 4 },
+    { "the wind is a binding and the target", 0, 1, 1 },
+    { "the wind is the focus", 2, 3, 2 },
+    { "the wind is in, above the focus", 3, 3, 2 },
+    { "the wind's parent is not the focus but below it", 1, 5, 5 },
+    { "the wind's parent is not the focus but its child", 0, 3, 2 },
+    { "the wind's parent is on another branch", 3, 5, 5 },
+    { "the wind is not on the target's path: the target is beside it", 1, 4, 2 },
+    { "the wind is not on the target's path: nor as deep", 1, 5, 2 },
+    { "the wind is not on the target's path: the target is the focus", 1, 1, 2 },
+    { "the wind is not on the target's path: the target is above", 1, 0, 2 }
+};
+
+static void walk_refused(const struct walk_clause *c)
+{
+    check_name(c->name);
+    lend_walk(c->focus, c->target, c->wind);
+    every_call_refuses();
+}
+
+/* Each pair of fields at each focus: sound or refused, as the model says. */
+static void every_walk(void)
+{
+    static const unsigned fields[] = {
+        0, 1, 2, 3, 4, 5, 6, 7, NODES, 256, 256 + 2, 0x8002, NONE - 1, NONE
+    };
+    unsigned focus, i, j, sound = 0, count = sizeof fields / sizeof fields[0];
+
+    check_name("each target with each wind at each focus");
+    for (focus = 0; focus < 6; focus++)
+        for (i = 0; i < count; i++)
+            for (j = 0; j < count; j++) {
+                lend_walk(focus, fields[i], fields[j]);
+                if (model_sound(store.bytes, store.len)) {
+                    check_answer(kn_here(store.bytes, store.len),
+                                 done((int32_t)focus, 0, 0), "here");
+                    sound++;
+                } else {
+                    every_call_refuses();
+                }
+            }
+    check(sound == 6 * 7 + 3, "as many walks as there are");
+}
+
 /* ---- Nodes that are their own parent, and false depths, at every number ---- */
 
 enum { LAST = KN_MAX_NODES - 1 };
@@ -358,6 +441,31 @@ static int own_parents(const char *name, unsigned focus)
     return good;
 }
 
+/* The next of the line is handed over, on the way to its end: sound for each
+   wind, and for no binding; then the one after, and the target at the focus. */
+static void every_wind(void)
+{
+    static struct model m;
+    unsigned n;
+
+    check_name("each wind of a line is handed over, and each binding");
+    for (n = 1; n < LAST; n++) {
+        lend_line(&m, n - 1);
+        put16(HEAD_TARGET, LAST);
+        put16(HEAD_WIND, n);
+        if (m.node[n].wind)
+            check_answer(kn_here(store.bytes, store.len),
+                         done((int32_t)n - 1, 0, 0), "here");
+        else
+            chance_call_refuses();
+        put16(HEAD_WIND, n + 1);
+        chance_call_refuses();
+        put16(HEAD_WIND, n);
+        put16(HEAD_TARGET, n - 1);
+        chance_call_refuses();
+    }
+}
+
 static void the_base_is_sound(void)
 {
     struct model m;
@@ -395,6 +503,10 @@ void test_clauses(void)
     depths_from("all depths are one too large, the top's too", 0, 1);
     depths_from("all depths but the top's are one too large", 1, 1);
     depths_from("all depths but the top's are one too small", 1, -1);
+    for (i = 0; i < sizeof bad_walks / sizeof bad_walks[0]; i++)
+        walk_refused(&bad_walks[i]);
+    every_walk();
+    every_wind();
     the_top_is_deep();
     every_depth("each depth off the path is false", 0);
     every_depth("each depth on the path is false", LAST);

@@ -30,11 +30,14 @@ static void judge(void)
     all_refuse(chance_call(&meaning));
 }
 
+/* In a walk or in none. */
 static void small_store(void)
 {
     unsigned nodes = 1 + chance(10);
 
     chance_store(&meaning, 1 + chance(4), nodes, 1 + chance(nodes), chance(4));
+    if (chance(2) == 0)
+        chance_walk(&meaning);
 }
 
 /* ---- Ways to damage ---- */
@@ -65,7 +68,7 @@ static void put16(uint8_t *field, unsigned n)
 /* A field of the header, or a depth. */
 static void change_field(uint8_t *field)
 {
-    unsigned to[6];
+    unsigned to[8];
 
     to[0] = 0;
     to[1] = meaning.made;
@@ -73,7 +76,9 @@ static void change_field(uint8_t *field)
     to[3] = get16(field) + 1;
     to[4] = get16(field) - 1;
     to[5] = chance(65536);
-    put16(field, to[chance(6)]);
+    to[6] = chance(meaning.made);
+    to[7] = 65535;
+    put16(field, to[chance(8)]);
 }
 
 /* Another parent, and the depth that goes with it. */
@@ -121,7 +126,7 @@ static void damage(void)
     case 2: *some_byte() = (uint8_t)chance(7); break;
     case 3: some_node()[0] = (uint8_t)chance(7); break;
     case 4: some_node()[PARENT] = (uint8_t)chance(meaning.nodes); break;
-    case 5: change_field(store.bytes + 2 * chance(4)); break;
+    case 5: change_field(store.bytes + 2 * chance(KN_HEADER_BYTES / 2)); break;
     case 6: exchange_nodes(); break;
     case 7: change_field(some_node() + DEPTH); break;
     case 8: change_parent(); break;
@@ -175,8 +180,10 @@ static void random_bytes(void)
     check_name("random bytes");
     for (i = 0; i < RANDOM_STORES; i++) {
         lent_take(&store, chance(200));
-        if (i % 2 == 0 && store.len >= 8) {
-            static const uint8_t header[8] = { 1, 0, 4, 0, 2, 0, 1, 0 };
+        if (i % 2 == 0 && store.len >= KN_HEADER_BYTES) {
+            static const uint8_t header[KN_HEADER_BYTES] = {
+                1, 0, 4, 0, 2, 0, 1, 0, 255, 255, 255, 255
+            };
             memcpy(store.bytes, header, sizeof header);
         }
         judge();
@@ -191,6 +198,7 @@ static void at_the_limits(unsigned made)
 
     check_name("a store at the limits, damaged byte by byte");
     chance_store(&meaning, KN_MAX_VARS, KN_MAX_NODES, made, 0);
+    chance_walk(&meaning);
     for (at = 0; at < store.len; at += 3) {
         uint8_t kept = store.bytes[at];
         store.bytes[at] ^= (uint8_t)(1u << chance(8));

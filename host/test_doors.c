@@ -1,5 +1,6 @@
 /* test_doors.c: document 02's W4, going round by another door. A run, and the
-   same run with jumps of its own put in, end in equal bytes. */
+   same run with jumps of its own put in, end in equal bytes. It speaks of runs
+   without walks. */
 #include "check.h"
 
 #include <stdio.h>
@@ -25,12 +26,14 @@ static size_t room_enough(void)
     return KN_TRACE_SIZE(meaning.nodes);
 }
 
-/* At times with too little room. */
+/* At times with too little room; never the begin of a walk. */
 static struct step chance_step(void)
 {
     struct step s;
 
-    s.call = chance_call(&meaning);
+    do
+        s.call = chance_call(&meaning);
+    while (s.call.kind == BEGIN);
     s.place = meaning.focus;
     s.made = meaning.made;
     s.trace_len = room_enough();
@@ -92,7 +95,7 @@ static void aside(void)
 
     if (c.kind == BIND || c.kind == SET)
         c.x = meaning.vars + chance(9);
-    else if (c.kind == GOTO)
+    else if (c.kind == GOTO || c.kind == BEGIN)
         c.a = meaning.made + chance(9);
     else if (c.kind == HERE || c.kind == BACK)
         c.kind = FAR;

@@ -86,12 +86,12 @@ static void case_c(void)
 
 static void case_d(void)
 {
-    check_name("(d) 69 bytes for V=1, N=4 open, 68 don't");
-    check_answer(opened(1, 4, 68), refused(KN_SETUP), "68");
+    check_name("(d) 73 bytes for V=1, N=4 open, 72 don't");
+    check_answer(opened(1, 4, 72), refused(KN_SETUP), "72");
     check(lent_same(&store), "a refused open changes nothing");
-    check_answer(opened(1, 4, 69), done(0, 0, 0), "69");
-    check_answer(here(), done(0, 0, 0), "lent with 69");
-    check_answer(kn_here(store.bytes, 68), refused(KN_DAMAGED), "lent with 68");
+    check_answer(opened(1, 4, 73), done(0, 0, 0), "73");
+    check_answer(here(), done(0, 0, 0), "lent with 73");
+    check_answer(kn_here(store.bytes, 72), refused(KN_DAMAGED), "lent with 72");
 }
 
 static void case_e(void)
@@ -183,9 +183,9 @@ static void case_j(void)
 static void case_k(void)
 {
     check_name("(k) the card");
-    lent_take(&store, 69);
+    lent_take(&store, 73);
     lent_take(&trace, 2 * KN_EVENT_BYTES);
-    check_answer(kn_open(1, 4, one, 5, store.bytes, 69), done(0, 0, 0), "open");
+    check_answer(kn_open(1, 4, one, 5, store.bytes, 73), done(0, 0, 0), "open");
     check_answer(bind(0, -1), done(1, 0, 0), "op 1");
     check_answer(wind(10, 11), done(2, 0, 1), "op 2");
     event_is(0, 1, 10, 1);

@@ -15,8 +15,8 @@ static void header_constants(void)
         check(kn_limit(i) == header[i], "kn_limit");
     check(kn_limit(count) == 0 && kn_limit(0xffffffffu) == 0,
           "kn_limit past the last");
-    check(KN_SIZE(1, 4) == 69, "KN_SIZE(1, 4)");
-    check(KN_SIZE(256, 2048) == 29960, "KN_SIZE at the limits");
+    check(KN_SIZE(1, 4) == 73, "KN_SIZE(1, 4)");
+    check(KN_SIZE(256, 2048) == 29964, "KN_SIZE at the limits");
     check(KN_TRACE_SIZE(2048) == 10235 && KN_TRACE_SIZE(1) == 0, "KN_TRACE_SIZE");
     check(KN_STACK_SIZE(2048) == 98512, "KN_STACK_SIZE at the limits");
 }
@@ -27,12 +27,13 @@ static void answer_numbers(void)
     check(KN_DONE == 0 && KN_SETUP == 1 && KN_DAMAGED == 2
           && KN_NO_VARIABLE == 3 && KN_NO_ENVIRONMENT == 4
           && KN_UNBOUND == 5 && KN_FULL == 6 && KN_TRACE_ROOM == 7
-          && KN_TOP == 8 && KN_LINE == 9, "enum kn_code");
+          && KN_TOP == 8 && KN_LINE == 9 && KN_WALKING == 10
+          && KN_NOT_WALKING == 11, "enum kn_code");
     check(KN_LEAVING == 0 && KN_ENTERING == 1, "enum kn_what");
 }
 
-/* A chain of two winds and a binding; going up it gives four numbers that
-   all differ. */
+/* A binding, two winds and a binding in one line; going up it gives numbers
+   that all differ, and so does a step down. */
 static void struct_abi(void)
 {
     static const uint8_t tops[5] = { 1, 0xff, 0xff, 0xff, 0x7f };
@@ -40,11 +41,13 @@ static void struct_abi(void)
     kn_answer r;
 
     check_name("the answer struct by value");
-    check(sizeof(kn_answer) == 12, "12 bytes");
+    check(sizeof(kn_answer) == 16, "16 bytes");
     check(offsetof(kn_answer, out) == 0 && offsetof(kn_answer, code) == 4
           && offsetof(kn_answer, moves) == 6
           && offsetof(kn_answer, events) == 8
-          && offsetof(kn_answer, by) == 10, "its fields' places");
+          && offsetof(kn_answer, by) == 10
+          && offsetof(kn_answer, thunk) == 12
+          && offsetof(kn_answer, event) == 14, "its fields' places");
     lent_take(&store, KN_SIZE(1, 8));
     lent_take(&trace, 10);
     s = store.bytes;
@@ -60,6 +63,9 @@ static void struct_abi(void)
     check_answer(kn_goto(store.bytes, store.len, trace.bytes, trace.len, 1),
                  done(1, 3, 2), "every field its own");
     check(trace.bytes[6] == 0xfe && trace.bytes[7] == 0xff, "q is 16-bit");
+    kn_begin(store.bytes, store.len, 4);
+    check_answer(kn_step(store.bytes, store.len),
+                 told(1, 0, KN_ENTERING, 65535), "a step's fields too");
 }
 
 /* Each call with an empty store at this pointer. */

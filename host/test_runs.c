@@ -97,8 +97,8 @@ static void random_calls(unsigned count, unsigned events)
     }
 }
 
-/* Half of the stores begin empty, half with anything sound in them. Half of
-   them are lent with a length that reaches into the guard page. */
+/* Half of the stores begin empty, half with anything sound in them, a walk
+   too. Half of them are lent with a length that reaches into the guard page. */
 static void small_runs(void)
 {
     unsigned i;
@@ -107,7 +107,9 @@ static void small_runs(void)
     for (i = 0; i < SMALL_RUNS; i++) {
         unsigned vars = 1 + chance(4), nodes = 1 + chance(20);
         chance_store(&meaning, vars, nodes, i % 2 == 0 ? 1 : 1 + chance(nodes), 0);
-        beyond = i % 4 < 2 ? 0 : 4096;
+        if (i % 4 == 1)
+            chance_walk(&meaning);
+        beyond = i % 8 < 4 ? 0 : 4096;
         chance_trace(6);
         random_calls(30, 6);
     }

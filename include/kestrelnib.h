@@ -17,9 +17,9 @@
  *   buffer is lent until the call returns: a call from an interrupt or another
  *   thread may meanwhile use another store and trace, not these.
  *
- * Answers.  Every call takes every input. The lowest code that applies is
- *   given. Beside a refusal's code all other numbers are 0, and no byte of
- *   store or trace has changed.
+ * Answers.  Every call takes every input. Each call lists its refusals: the
+ *   first that applies, in this order, is given. Beside a refusal's code all
+ *   other numbers are 0, and no byte of store or trace has changed.
  *
  * Numbers.  vars, nodes, x, a and b are 32-bit: one that is too large is
  *   refused and never cut off. p and q are 16-bit and every one is good: C
@@ -27,18 +27,19 @@
  *   numbers are little endian.
  *
  * Memory.  KN_SIZE bytes of store, KN_TRACE_SIZE of trace, KN_STACK_SIZE of
- *   stack. Stack by depth: goto and back take 48 bytes for each environment
- *   that they leave or enter, and at most 256 more; any other call takes at
- *   most 256. At the limits 29,960 + 10,235 + 98,512 = 138,707 bytes in all;
- *   one trace and one stack can serve several stores in turn. No call needs
- *   more than 100 KiB of stack. (Measured on x86-64: docs/FIGURES.md.)
+ *   stack. Stack by depth: goto, back and step take 48 bytes for each
+ *   environment that they leave or enter, and at most 256 more; any other call
+ *   takes at most 256. At the limits 29,964 + 10,235 + 98,512 = 138,711 bytes
+ *   in all; one trace and one stack can serve several stores in turn. No call
+ *   needs more than 100 KiB of stack. (Measured on x86-64: docs/FIGURES.md.)
  *
  * Time.  Every call but open first reads the whole store; that is how damage
  *   is found. So time grows with vars + nodes: on an x86-64 PC, the 30 KB of
  *   a store at the limits take about 1 microsecond with only the top made, and
  *   about 5 with 2,047 environments in one line, the focus at its end. Look
  *   and peek then climb to the binding that decides, far to where two ways to
- *   the top meet, and goto and back move.
+ *   the top meet, and goto and back move. A step climbs at most once from the
+ *   walk's target and once from the focus, and moves.
  *
  * After DAMAGED.  The call changed nothing, and every call will say the same
  *   of these bytes. See first that pointer and length are those of the open.
@@ -65,6 +66,17 @@
  *
  * Then up is 1, down is -1, r says: code 0, out 2, moves 2, events 1, and e
  * says: KN_ENTERING, thunk 10, place 1.
+ *
+ * Walk: from there to the top, with each thunk run between the moves.
+ *
+ *     r = kn_begin(store, sizeof store, 0);
+ *     if (r.code == KN_DONE)
+ *         r = kn_step(store, sizeof store);
+ *     for (; r.events == 1; r = kn_step(store, sizeof store))
+ *         run(r.event, r.thunk);
+ *
+ * Then run, which is yours, was called once, with KN_LEAVING and 11 and the
+ * focus at 1, and r says: code 0, out 0, moves 1, events 0.
  */
 #ifndef KESTRELNIB_H
 #define KESTRELNIB_H
@@ -81,7 +93,7 @@ extern "C" {
 enum kn_constant {
     KN_MAX_VARS     = 256,  /* variables of a store: 1 to this             */
     KN_MAX_NODES    = 2048, /* environments, the top counted: 1 to this    */
-    KN_HEADER_BYTES = 8,
+    KN_HEADER_BYTES = 12,
     KN_CELL_BYTES   = 5,    /* state (0 unbound, 1 value), value (4)       */
     KN_NODE_BYTES   = 14,
     KN_EVENT_BYTES  = 5     /* what (1), thunk (2), place (2)              */
@@ -113,17 +125,23 @@ enum kn_code {
     KN_FULL           = 6, /* bind or wind with no environment of room     */
     KN_TRACE_ROOM     = 7, /* more events than the trace has room for      */
     KN_TOP            = 8, /* back with the focus at the top               */
-    KN_LINE           = 9  /* the card program's; no call here gives it    */
+    KN_LINE           = 9, /* the card program's; no call here gives it    */
+    KN_WALKING        = 10, /* bind, wind, goto, back or begin in a walk   */
+    KN_NOT_WALKING    = 11  /* step or drop outside a walk                 */
 };
 
 typedef struct kn_answer {
     int32_t  out;    /* look, peek: the value; far: how far; else an
                         environment's number                                */
     uint16_t code;
-    uint16_t moves;  /* goto, back: environments left and entered           */
-    uint16_t events; /* wind, goto, back: events written to the trace       */
+    uint16_t moves;  /* goto, back, step: environments left and entered     */
+    uint16_t events; /* wind, goto, back: events written to the trace; step:
+                        1 for an event handed over, 0 for done              */
     uint16_t by;     /* look, peek: the environment whose binding decides
                         the value, 0 for the top value; else 0              */
+    uint16_t thunk;  /* step with an event: the thunk's number; else 0      */
+    uint16_t event;  /* step with an event: KN_LEAVING or KN_ENTERING; else
+                        0, so see first that events is 1                    */
 } kn_answer;
 
 /* ---- The trace ---------------------------------------------------------- */
@@ -196,11 +214,11 @@ kn_answer kn_open(uint32_t vars, uint32_t nodes,
 /* Both make a child of the focus, which becomes the focus, and answer its
    number: the lowest not yet made. No environment is freed. */
 
-/* Binds x to v. Refusals: DAMAGED, NO_VARIABLE, FULL. */
+/* Binds x to v. Refusals: DAMAGED, WALKING, NO_VARIABLE, FULL. */
 kn_answer kn_bind(uint8_t *store, size_t store_len, uint32_t x, int32_t v);
 
 /* A wind with prelude p and postlude q; writes one event, entering p.
-   Refusals: DAMAGED, FULL, TRACE_ROOM. */
+   Refusals: DAMAGED, WALKING, FULL, TRACE_ROOM. */
 kn_answer kn_wind(uint8_t *store, size_t store_len,
                   uint8_t *trace, size_t trace_len, uint16_t p, uint16_t q);
 
@@ -239,13 +257,39 @@ kn_answer kn_far(const uint8_t *store, size_t store_len,
 
 /* Moves the focus to a by the shortest way and writes an event for each wind
    left or entered. Answers a, the moves and the events.
-   Refusals: DAMAGED, NO_ENVIRONMENT, TRACE_ROOM. */
+   Refusals: DAMAGED, WALKING, NO_ENVIRONMENT, TRACE_ROOM. */
 kn_answer kn_goto(uint8_t *store, size_t store_len,
                   uint8_t *trace, size_t trace_len, uint32_t a);
 
-/* Goto the focus's parent. Refusals: DAMAGED, TRACE_ROOM, TOP. */
+/* Goto the focus's parent. Refusals: DAMAGED, WALKING, TRACE_ROOM, TOP. */
 kn_answer kn_back(uint8_t *store, size_t store_len,
                   uint8_t *trace, size_t trace_len);
+
+/* ---- Walks -------------------------------------------------------------- */
+
+/* A goto whose thunks run between its moves: begin, then steps until one says
+   done. The store's bytes hold the walk, and no trace is needed. During a walk
+   look, peek, set, here and far do as ever, with the focus where the walk
+   stands; bind, wind, goto, back and a second begin are refused. A walk of so
+   many events is done at one step more; its steps together make goto's moves
+   and hand over goto's events, in their order. All three calls answer the
+   focus. */
+
+/* Begins a walk to a; nothing is moved.
+   Refusals: DAMAGED, WALKING, NO_ENVIRONMENT. */
+kn_answer kn_begin(uint8_t *store, size_t store_len, uint32_t a);
+
+/* Moves up to the walk's next event and hands it over, the focus being its
+   place: events is 1, and event and thunk say which. A wind whose leaving is
+   handed over has been left. One whose entering is handed over is entered
+   first thing at the next step. With no event left it moves to the target and
+   the walk is done: events is 0. Refusals: DAMAGED, NOT_WALKING. */
+kn_answer kn_step(uint8_t *store, size_t store_len);
+
+/* Ends the walk where it stands. A wind whose entering was handed over is then
+   not entered, and its postlude will not be told.
+   Refusals: DAMAGED, NOT_WALKING. */
+kn_answer kn_drop(uint8_t *store, size_t store_len);
 
 /* ---- The library's own constants ---------------------------------------- */
 

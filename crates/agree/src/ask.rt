@@ -2,11 +2,11 @@
 use crate::draw::Op;
 use crate::model;
 use crate::model::BINDING;
-use crate::model::FOCUS;
 use crate::model::SPACE;
 use crate::model::Says;
 use crate::model::UNBOUND;
 use crate::model::WIND;
+use crate::walk;
 use layout::Store;
 use promises::Answer;
 use promises::numbers_of;
@@ -17,14 +17,6 @@ fn cut32(n: usize) -> u32 {
 
 fn cut16(n: usize) -> u16 {
     (n % 65_536) as u16
-}
-
-fn wide(n: u16) -> usize {
-    n as usize
-}
-
-fn wide32(n: u32) -> usize {
-    n as usize
 }
 
 // The value with these bits.
@@ -46,18 +38,20 @@ fn unsigned(v: i32) -> u32 {
 }
 
 // The store's answer as document 01's numbers.
-pub(crate) fn told(r: Answer) -> Says {
+fn told(r: Answer) -> Says {
     let n = numbers_of(r);
     let mut by = model::NO_ONE;
     if n.decided {
-        by = wide(n.by);
+        by = n.by as usize;
     }
     Says {
-        code: wide(n.code),
-        out: wide32(unsigned(n.out)),
-        moves: wide(n.moves),
-        events: wide(n.events),
+        code: n.code as usize,
+        out: unsigned(n.out) as usize,
+        moves: n.moves as usize,
+        events: n.events as usize,
         by,
+        event: n.event as usize,
+        thunk: n.thunk as usize,
     }
 }
 
@@ -76,12 +70,8 @@ fn read(what: u8, one: usize, two: usize, s: &[u8]) -> Answer {
     }
 }
 
-pub(crate) fn store_peek(s: &[u8], a: usize, x: usize) -> Says {
-    told(read(b'p', a, x, s))
-}
-
-pub(crate) fn store_here(s: &[u8]) -> Says {
-    told(read(b'h', 0, 0, s))
+pub(crate) fn store_reads(what: u8, one: usize, two: usize, s: &[u8]) -> Says {
+    told(read(what, one, two, s))
 }
 
 fn asked(o: Op, s: &mut [u8], t: &mut [u8]) -> Answer {
@@ -94,6 +84,9 @@ fn asked(o: Op, s: &mut [u8], t: &mut [u8]) -> Answer {
         b's' => store::set(s, x, v),
         b'g' => store::goto(s, t, x),
         b'k' => store::back(s, t),
+        b'i' => store::begin(s, x),
+        b't' => store::step(s),
+        b'r' => store::drop(s),
         _ => read(what, o.one, o.two, s),
     }
 }
@@ -103,7 +96,7 @@ pub(crate) fn of_store(o: Op, s: &mut [u8], t: &mut [u8]) -> Says {
 }
 
 fn answer(o: Op, m: &[usize; SPACE], notes: &mut [u8]) -> Says {
-    let what = o.what;
+    let what = walk::barred(o.what, walk::walking(m));
     let room = o.trace / Store::EVENT;
     match what {
         b'b' => model::bind(m, o.one),
@@ -114,18 +107,23 @@ fn answer(o: Op, m: &[usize; SPACE], notes: &mut [u8]) -> Says {
         b'g' => model::goto(m, o.one, room, notes),
         b'k' => model::back(m, room, notes),
         b'f' => model::far(m, o.one, o.two, notes),
+        b'i' => walk::begin(m, o.one),
+        b't' => walk::step(m),
+        b'r' => model::here(m),
+        b'X' => model::refused(10),
+        b'Y' => model::refused(11),
         _ => model::peek(m, o.one, o.two),
     }
 }
 
-// What an operation that answers `out` makes of the model.
-fn change(o: Op, out: usize, m: &mut [usize; SPACE]) {
+// What an operation with this answer makes of the model.
+fn change(o: Op, r: Says, m: &mut [usize; SPACE]) {
     let what = o.what;
     match what {
         b'b' => model::grow(m, BINDING, o.one, 0, o.two),
         b'w' => model::grow(m, WIND, o.one, o.two, UNBOUND),
         b's' => model::put_value(m, o.one, o.two),
-        b'g' | b'k' => model::put_head(m, FOCUS, out),
+        b'g' | b'k' | b'i' | b't' | b'r' => walk::go_on(m, o, r),
         _ => {}
     }
 }
@@ -133,7 +131,7 @@ fn change(o: Op, out: usize, m: &mut [usize; SPACE]) {
 pub(crate) fn of_model(o: Op, m: &mut [usize; SPACE], notes: &mut [u8]) -> Says {
     let r = answer(o, m, notes);
     if r.code == 0 {
-        change(o, r.out, m);
+        change(o, r, m);
     }
     r
 }
@@ -141,5 +139,6 @@ pub(crate) fn of_model(o: Op, m: &mut [usize; SPACE], notes: &mut [u8]) -> Says 
 // Whether two answers are the same.
 pub(crate) fn agree(a: Says, b: Says) -> bool {
     let first = (a.code ^ b.code) | (a.out ^ b.out) | (a.moves ^ b.moves);
-    first | (a.events ^ b.events) | (a.by ^ b.by) == 0
+    let event = (a.event ^ b.event) | (a.thunk ^ b.thunk);
+    first | (a.events ^ b.events) | (a.by ^ b.by) | event == 0
 }

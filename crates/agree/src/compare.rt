@@ -27,45 +27,57 @@ pub(crate) const SIZES: usize = 6;
 
 pub(crate) const DOORS: usize = 7;
 
-// ---- counts: refusals by their numbers up to 8, then these
+pub(crate) const WALKS: usize = 8;
 
-pub(crate) const SEQUENCES: usize = 10;
+// ---- counts: refusals by their numbers up to 11, then these. After BROKEN and FIELDS, which are refused, stand those still sound
 
-pub(crate) const OPERATIONS: usize = 11;
+pub(crate) const SEQUENCES: usize = 12;
 
-pub(crate) const VALUES: usize = 12;
+pub(crate) const OPERATIONS: usize = 13;
 
-pub(crate) const MOVES: usize = 13;
+pub(crate) const VALUES: usize = 14;
 
-pub(crate) const EVENTS: usize = 14;
+pub(crate) const MOVES: usize = 15;
 
-pub(crate) const BROKEN: usize = 15;
+pub(crate) const EVENTS: usize = 16;
 
-pub(crate) const CHANGED: usize = 16;
+pub(crate) const BROKEN: usize = 17;
 
-pub(crate) const OWN_LOW: usize = 17;
+pub(crate) const OWN_LOW: usize = 19;
 
-pub(crate) const OWN_HIGH: usize = 18;
+pub(crate) const OWN_HIGH: usize = 20;
 
-pub(crate) const FAR: usize = 19;
+pub(crate) const FAR: usize = 21;
 
-pub(crate) const FAR_TOP: usize = 20;
+pub(crate) const FAR_TOP: usize = 22;
 
-pub(crate) const FAR_SAME: usize = 21;
+pub(crate) const FAR_SAME: usize = 23;
 
-pub(crate) const FAR_NONE: usize = 22;
+pub(crate) const FAR_NONE: usize = 24;
 
-pub(crate) const NODE_DEPTH: usize = 23;
+pub(crate) const NODE_DEPTH: usize = 25;
 
-pub(crate) const TOP_DEPTH: usize = 24;
+pub(crate) const TOP_DEPTH: usize = 26;
 
-pub(crate) const BLANK_DEPTH: usize = 25;
+pub(crate) const BLANK_DEPTH: usize = 27;
 
-pub(crate) const SHIFTED: usize = 26;
+pub(crate) const SHIFTED: usize = 28;
 
-pub(crate) const PAIRS: usize = 27;
+pub(crate) const PAIRS: usize = 29;
 
-pub(crate) const PUT_IN: usize = 28;
+pub(crate) const PUT_IN: usize = 30;
+
+pub(crate) const DURING: usize = 31;
+
+pub(crate) const HANDED_OVER: usize = 32;
+
+pub(crate) const FINISHED: usize = 33;
+
+pub(crate) const SAME: usize = 34;
+
+pub(crate) const DROPPED: usize = 35;
+
+pub(crate) const FIELDS: usize = 36;
 
 pub(crate) fn count(m: &mut [usize; SPACE], i: usize, n: usize) {
     let c = model::of(m, COUNTED, i);
@@ -110,7 +122,7 @@ pub(crate) const MANY: usize = 400;
 
 fn value_agrees(loud: bool, s: &[u8], m: &[usize; SPACE], a: usize, x: usize) -> bool {
     let want = model::peek(m, a, x);
-    let got = ask::store_peek(s, a, x);
+    let got = ask::store_reads(b'p', a, x, s);
     if ask::agree(want, got) {
         return true;
     }

@@ -1,5 +1,6 @@
 // Going round by another door: a second run of the sequence, in a store of its own, makes the first's binds, winds, sets and
-// heres with drawn jumps put in before each, and none of the first's gotos and backs. At the same focus both have the same bytes.
+// heres with drawn jumps put in before each, and none of the first's gotos, backs and walks. Where the first is not in a walk, both
+// have the same bytes at the same focus.
 use crate::ask;
 use crate::buffer::copy;
 use crate::buffer::holds;
@@ -18,18 +19,20 @@ use crate::model::SPACE;
 use crate::model::Says;
 use crate::model::head;
 use crate::say;
+use crate::walk;
 use layout::Store;
-
-// The second run begins with the bytes of the first.
-pub(crate) fn begin(s: &[u8], u: &mut [u8]) -> usize {
-    copy(s, u);
-    0
-}
 
 // The operation in the second run, with room for all events.
 fn second(o: Op, u: &mut [u8]) -> Says {
     let mut t = [0u8; Store::EVENT * Store::NODES];
     ask::of_store(o, u, &mut t)
+}
+
+// The second run begins with the bytes of the first, but in no walk.
+pub(crate) fn begin(s: &[u8], u: &mut [u8]) -> usize {
+    copy(s, u);
+    second(made_op(b'r', 0, 0), u);
+    0
 }
 
 // A jump in the second run: 1 where it is answered, else 0.
@@ -64,12 +67,13 @@ fn jumps(loud: bool, seed: usize, made: usize, u: &mut [u8]) -> usize {
     n
 }
 
-// Whether the operation is one of those that both make. A wind without room is refused.
-fn both(o: Op) -> bool {
+// Whether the operation is one of those that both make. A wind without room is refused, and in a walk a bind too.
+fn both(o: Op, walking: bool) -> bool {
     let what = o.what;
     match what {
-        b'b' | b's' | b'h' => true,
-        b'w' => Store::EVENT <= o.trace,
+        b's' | b'h' => true,
+        b'b' => !walking,
+        b'w' => !walking && Store::EVENT <= o.trace,
         _ => false,
     }
 }
@@ -81,7 +85,7 @@ fn home(loud: bool, u: &mut [u8], m: &[usize; SPACE]) -> usize {
 
 // Before the first run makes the operation: jumps, then home, then the operation.
 pub(crate) fn go_round(loud: bool, g: usize, o: Op, u: &mut [u8], m: &mut [usize; SPACE]) -> usize {
-    if !both(o) {
+    if !both(o, walk::walking(m)) {
         return 0;
     }
     let n = jumps(loud, g, head(m, MADE), u);
@@ -91,8 +95,11 @@ pub(crate) fn go_round(loud: bool, g: usize, o: Op, u: &mut [u8], m: &mut [usize
     0
 }
 
-// Whether the two runs have the same bytes, those lent after the store too.
+// Whether the two runs have the same bytes, those lent after the store too, where the first is in no walk.
 pub(crate) fn pair_agrees(loud: bool, s: &[u8], u: &mut [u8], m: &mut [usize; SPACE]) -> usize {
+    if walk::walking(m) {
+        return 0;
+    }
     count(m, PAIRS, 1);
     home(loud, u, m);
     if holds(u, s, s.len()) {

@@ -13,6 +13,7 @@ use crate::model::is_full;
 use crate::model::place;
 use crate::model::up;
 use crate::model::way;
+use crate::walk::walking;
 use layout::Store;
 
 // ---- the generator
@@ -63,29 +64,37 @@ pub(crate) const EDGES: usize = 8;
 pub(crate) const NONE: usize = 9;
 
 // The operations of a kind by their letters, each as often as it stands: Bind, Wind, Look, Set, Here, Goto, bacK, Peek,
-// Far, Damage, Unbind a cell, Open, Cut off. A row for each kind; deep chains grow until the store is full, and then have the last.
-const MENU: usize = 17;
+// Far, begIn, sTep, dRop, Damage, Unbind a cell, Open, Cut off. A row for each kind; deep chains grow until the store is full, and
+// then have the last but one. During a walk every other is one of the last.
+const MENU: usize = 20;
 
-const MENUS: [u8; MENU * (KINDS + 1)] = *b"bbbbbbbbbwwwwlspf\
-    bbbbwwggggggklspf\
-    bbbbbbssssgggklpf\
-    wwwwwwwggggggkkbf\
-    bbbwwggggggggglpf\
-    bbbbbbwwwwgklsphf\
-    bbbwwggsddddddupf\
-    bwwwwwggggggggkkf\
-    bwglsphkoocckgsbf\
-    bblllssspppggkwuf\
-    gggggkkkssslpphbf";
+const MENUS: [u8; MENU * (KINDS + 2)] = *b"bbbbbbbbbwwwwlspfttr\
+    bbbbwwggggggklspfiit\
+    bbbbbbssssgggklpfiir\
+    wwwwwwwggggggkkbfiit\
+    bbbwwggggggggglpfiir\
+    bbbbbbwwwwgklsphfiit\
+    bbbwwggsddddddupfiit\
+    bwwwwwggggggggkkfiir\
+    bwglsphkoocckgsbfiit\
+    bblllssspppggkwufiir\
+    gggggkkkssslpphbfiit\
+    tttttttttttttsslhpfr";
 
-// The letter of the next operation.
+// The row of the next operation.
+fn row(kind: usize, g: usize, m: &[usize; SPACE]) -> usize {
+    if walking(m) && once_in(next(g), 2) {
+        return KINDS + 1;
+    }
+    if kind == DEEP && is_full(m) {
+        return KINDS;
+    }
+    kind
+}
+
+// Its letter.
 pub(crate) fn what(kind: usize, g: usize, m: &[usize; SPACE]) -> u8 {
-    let row = if kind == DEEP && is_full(m) {
-        KINDS
-    } else {
-        kind
-    };
-    MENUS[row % (KINDS + 1) * MENU + draw(g, MENU) % MENU]
+    MENUS[row(kind, g, m) % (KINDS + 2) * MENU + draw(g, MENU) % MENU]
 }
 
 // A sequence: its kind, the store's V and N, how many operations, how many bytes are lent after the store.
@@ -115,7 +124,7 @@ fn large_plan(kind: usize, g: usize) -> Plan {
         _ => plus(1, draw(g, 8)),
     };
     let steps = match kind {
-        DEEP | WINDS | FULL => 2_800,
+        DEEP | WINDS | FULL => 3_600,
         _ => 400,
     };
     drawn_plan(kind, next(g), vars, Store::NODES, steps)
@@ -250,7 +259,7 @@ fn numbers(kind: usize, g: usize, m: &[usize; SPACE], what: u8) -> Op {
     match what {
         b'b' | b's' => made_op(what, x, bits(g3)),
         b'l' => made_op(what, x, 0),
-        b'g' => made_op(what, a, 0),
+        b'g' | b'i' => made_op(what, a, 0),
         b'p' => made_op(what, a, x),
         b'f' => far_op(g2, a, environment(kind, next(g3), m)),
         _ => made_op(what, thunk(g2), thunk(next(g3))),
@@ -420,7 +429,7 @@ pub(crate) fn cut_len(g: usize, size: usize) -> usize {
     match draw(next(g), 4) {
         0 => size,
         1 => draw(next(next(g)), size),
-        2 => draw(next(next(g)), 9),
+        2 => draw(next(next(g)), Store::HEADER + 1),
         _ => std::num::wrapping_sub_usize(size, 1),
     }
 }
@@ -428,9 +437,4 @@ pub(crate) fn cut_len(g: usize, size: usize) -> usize {
 // Some number from `low` on, before `end` where there is one.
 pub(crate) fn between(g: usize, low: usize, end: usize) -> usize {
     plus(low, draw(g, std::num::wrapping_sub_usize(end, low)))
-}
-
-// The generator's state for the next operation.
-pub(crate) fn skip(g: usize) -> usize {
-    next(later(later(g)))
 }

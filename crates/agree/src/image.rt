@@ -33,10 +33,12 @@ use crate::model::place;
 use crate::model::put;
 use crate::model::put_heads;
 use crate::model::put_node;
+use crate::model::put_walk;
 use crate::model::size;
 use crate::model::take_tops;
 use crate::model::up;
 use crate::model::value;
+use crate::walk;
 use layout::Store;
 
 // ---- what is in
@@ -152,11 +154,11 @@ pub(crate) fn differ_at(b: &[u8], m: &[usize; SPACE], end: usize) -> usize {
     end
 }
 
-// The bytes that are lent.
-pub(crate) fn keep(b: &[u8], m: &mut [usize; SPACE]) {
+// These bytes, in this field.
+pub(crate) fn keep(field: usize, b: &[u8], m: &mut [usize; SPACE]) {
     let mut i = 0;
     while i < b.len() {
-        put(m, LENT, i, byte(b, i));
+        put(m, field, i, byte(b, i));
         i += 1;
     }
 }
@@ -177,6 +179,7 @@ fn take_head(b: &[u8], m: &mut [usize; SPACE]) {
         number16(b, 4),
         number16(b, 6),
     );
+    put_walk(m, number16(b, 8), number16(b, 10));
 }
 
 fn head_ok(m: &[usize; SPACE], len: usize) -> bool {
@@ -278,7 +281,7 @@ pub(crate) fn take(b: &[u8], m: &mut [usize; SPACE]) -> bool {
         return false;
     }
     take_tops(m, number16(b, 0), b, Store::HEADER);
-    if !take_nodes(b, m) {
+    if !take_nodes(b, m) || !walk::sound(m) {
         return false;
     }
     take_path(m);

@@ -1,6 +1,7 @@
 // Runs many drawn sequences of operations on the store and on a model of deep binding that shares no code with it, and
 // compares all that can be seen. It writes counts, or, at the first disagreement, the sequence.
 mod ask;
+mod beside;
 mod buffer;
 mod compare;
 mod damage;
@@ -12,9 +13,10 @@ mod model;
 mod parents;
 mod run;
 mod say;
+mod walk;
 
 // Seeds are 1 to this number.
-const SEQUENCES: usize = 6_000;
+const SEQUENCES: usize = 12_000;
 
 // Runs all sequences; at the first disagreement the sequence runs once more, with its operations written.
 fn all(m: &mut [usize; model::SPACE]) -> bool {
@@ -42,7 +44,7 @@ fn main() {
     let mut m = [0usize; model::SPACE];
     if all(&mut m) {
         counts(&m, compare::SEQUENCES, compare::VALUES);
-        counts(&m, 1, 9);
+        counts(&m, 1, compare::SEQUENCES);
         counts(&m, compare::VALUES, model::COUNTS);
     }
 }

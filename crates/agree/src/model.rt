@@ -10,8 +10,9 @@ use crate::buffer::spell32;
 use layout::Store;
 
 // One array has all numbers that the program keeps, a field after the other. The model: of each environment its kind, parent,
-// variable or prelude, postlude, own value and depth; then the top values; then V, N, made and the focus. After it, what is
-// compared with: a mark for each environment, the newest mark, the counts, and the bytes that were lent.
+// variable or prelude, postlude, own value and depth; then the top values; then V, N, made, the focus and the walk's two. After it,
+// what is compared with: a mark for each environment, the newest mark, the counts, the bytes that were lent; and of the walk that
+// is made beside a goto what is left of it, the goto's bytes and its trace.
 pub(crate) const KIND: usize = 0;
 
 pub(crate) const PARENT: usize = Store::NODES;
@@ -28,13 +29,13 @@ pub(crate) const TOP: usize = 6 * Store::NODES;
 
 const HEAD: usize = 6 * Store::NODES + Store::VARS;
 
-pub(crate) const MARK: usize = HEAD + 4;
+pub(crate) const MARK: usize = HEAD + 6;
 
 pub(crate) const NEWEST: usize = MARK + Store::NODES;
 
 pub(crate) const COUNTED: usize = NEWEST + 1;
 
-pub(crate) const COUNTS: usize = 29;
+pub(crate) const COUNTS: usize = 38;
 
 pub(crate) const LENT: usize = COUNTED + COUNTS;
 
@@ -44,7 +45,13 @@ pub(crate) const LARGEST: usize = Store::HEADER
     + Store::NODE * Store::NODES
     + 64;
 
-pub(crate) const SPACE: usize = LENT + LARGEST;
+pub(crate) const BESIDE: usize = LENT + LARGEST;
+
+pub(crate) const GONE: usize = BESIDE + 3;
+
+pub(crate) const TOLD: usize = GONE + LARGEST;
+
+pub(crate) const SPACE: usize = TOLD + Store::EVENT * Store::NODES;
 
 // Places in the head, in the order of a store's header.
 pub(crate) const VARS: usize = 0;
@@ -54,6 +61,10 @@ pub(crate) const ROOM: usize = 1;
 pub(crate) const MADE: usize = 2;
 
 pub(crate) const FOCUS: usize = 3;
+
+pub(crate) const TARGET: usize = 4;
+
+pub(crate) const HANDED: usize = 5;
 
 // Kinds; the top has none of them.
 pub(crate) const BINDING: usize = 1;
@@ -66,13 +77,16 @@ pub(crate) const UNBOUND: usize = 4_294_967_296;
 // No environment has this number: there is no decider to tell.
 pub(crate) const NO_ONE: usize = 65_536;
 
-// What a call answers: its number, the answer, moves and events, and of a value the decider.
+// What a call answers: its number, the answer, moves and events, of a value the decider, and of a step its event: 0 leaving or 1
+// entering, and the thunk.
 pub(crate) struct Says {
     pub code: usize,
     pub out: usize,
     pub moves: usize,
     pub events: usize,
     pub by: usize,
+    pub event: usize,
+    pub thunk: usize,
 }
 
 pub(crate) fn answered(code: usize, out: usize, moves: usize, events: usize) -> Says {
@@ -82,6 +96,8 @@ pub(crate) fn answered(code: usize, out: usize, moves: usize, events: usize) -> 
         moves,
         events,
         by: NO_ONE,
+        event: 0,
+        thunk: 0,
     }
 }
 
@@ -91,16 +107,6 @@ pub(crate) fn refused(code: usize) -> Says {
 
 pub(crate) fn done(out: usize) -> Says {
     answered(0, out, 0, 0)
-}
-
-pub(crate) fn seen(out: usize, by: usize) -> Says {
-    Says {
-        code: 0,
-        out,
-        moves: 0,
-        events: 0,
-        by,
-    }
 }
 
 // ---- the array
@@ -125,7 +131,14 @@ pub(crate) fn put_head(m: &mut [usize; SPACE], place: usize, v: usize) {
     put(m, HEAD, place, v);
 }
 
+pub(crate) fn put_walk(m: &mut [usize; SPACE], target: usize, handed: usize) {
+    put_head(m, TARGET, target);
+    put_head(m, HANDED, handed);
+}
+
+// All but the walk's. No goto stands beside it.
 pub(crate) fn put_heads(m: &mut [usize; SPACE], v: usize, n: usize, made: usize, focus: usize) {
+    put(m, BESIDE, 0, 0);
     put_head(m, VARS, v);
     put_head(m, ROOM, n);
     put_head(m, MADE, made);
@@ -208,7 +221,7 @@ fn note_item(p: &mut [usize; Store::NODES], k: usize, n: usize) {
 }
 
 // The path from a to the top, the top left out: how many nodes.
-fn path(m: &[usize; SPACE], a: usize, p: &mut [usize; Store::NODES]) -> usize {
+pub(crate) fn path(m: &[usize; SPACE], a: usize, p: &mut [usize; Store::NODES]) -> usize {
     let mut k = 0;
     let mut n = a;
     while 0 < n {
@@ -268,19 +281,24 @@ fn tell(m: &[usize; SPACE], n: usize, way: usize, notes: &mut [u8], e: usize) ->
 }
 
 // How many nodes a switch leaves, and how many moves it makes.
-struct Route {
-    left: usize,
-    moves: usize,
+pub(crate) struct Route {
+    pub left: usize,
+    pub moves: usize,
 }
 
 // A node, and whether it is left (way 0) or entered (way 1).
-struct Move {
-    node: usize,
-    way: usize,
+pub(crate) struct Move {
+    pub node: usize,
+    pub way: usize,
 }
 
 // The move number k of a switch that leaves the first nodes of p and enters the first of q, the outer ones first.
-fn move_at(p: &[usize; Store::NODES], q: &[usize; Store::NODES], w: Route, k: usize) -> Move {
+pub(crate) fn move_at(
+    p: &[usize; Store::NODES],
+    q: &[usize; Store::NODES],
+    w: Route,
+    k: usize,
+) -> Move {
     if k < w.left {
         return Move {
             node: item(p, k),
@@ -313,7 +331,12 @@ fn tell_all(
 }
 
 // What two paths have not in common: all of one is left, all of the other is entered.
-fn apart(p: &[usize; Store::NODES], np: usize, q: &[usize; Store::NODES], nq: usize) -> Route {
+pub(crate) fn apart(
+    p: &[usize; Store::NODES],
+    np: usize,
+    q: &[usize; Store::NODES],
+    nq: usize,
+) -> Route {
     let k = shared(p, np, q, nq);
     let left = less(np, k);
     Route {
@@ -433,6 +456,7 @@ pub(crate) fn open(m: &mut [usize; SPACE], v: usize, n: usize, tops: &[u8], len:
     }
     take_tops(m, v, tops, 0);
     put_heads(m, v, n, 1, 0);
+    put_walk(m, Store::NONE, Store::NONE);
     done(0)
 }
 
@@ -491,7 +515,15 @@ pub(crate) fn peek(m: &[usize; SPACE], a: usize, x: usize) -> Says {
     if v == UNBOUND {
         return refused(5);
     }
-    seen(v, decider(m, a, x))
+    Says {
+        code: 0,
+        out: v,
+        moves: 0,
+        events: 0,
+        by: decider(m, a, x),
+        event: 0,
+        thunk: 0,
+    }
 }
 
 pub(crate) fn look(m: &[usize; SPACE], x: usize) -> Says {
@@ -512,13 +544,9 @@ pub(crate) fn set(m: &[usize; SPACE], x: usize) -> Says {
     }
 }
 
-// Where the array has the value of x at the focus.
-fn decided_at(m: &[usize; SPACE], x: usize) -> usize {
-    own_at(decider(m, head(m, FOCUS), x), x)
-}
-
+// The value of x at the focus.
 pub(crate) fn put_value(m: &mut [usize; SPACE], x: usize, v: usize) {
-    let at = decided_at(m, x);
+    let at = own_at(decider(m, head(m, FOCUS), x), x);
     put(m, at, 0, v);
 }
 

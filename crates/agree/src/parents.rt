@@ -57,11 +57,6 @@ fn chosen(g: usize, m: &[usize; SPACE], way: usize) -> usize {
     out_first(g, m, way % 2, 1, end)
 }
 
-// Where the bytes have the parent of n.
-fn parent_at(m: &[usize; SPACE], n: usize) -> usize {
-    plus(image::node_at(model::head(m, VARS), n), 2)
-}
-
 // Where nodes up to 255 and those above are counted.
 fn counted_at(n: usize) -> usize {
     if n < 256 { OWN_LOW } else { OWN_HIGH }
@@ -76,7 +71,7 @@ pub(crate) fn own_parent(
     m: &mut [usize; SPACE],
 ) -> usize {
     let n = chosen(g, m, way);
-    let at = parent_at(m, n);
+    let at = plus(image::node_at(model::head(m, VARS), n), 2);
     if n == 0 {
         return 0;
     }

@@ -1,9 +1,12 @@
 // One sequence on the store and on the model, compared after each operation. It grows and jumps, is damaged, opened again and
 // lent too short.
 use crate::ask;
+use crate::beside;
 use crate::buffer::fill;
 use crate::buffer::holds;
 use crate::buffer::plus;
+use crate::compare::DROPPED;
+use crate::compare::DURING;
 use crate::compare::FAR;
 use crate::compare::FAR_NONE;
 use crate::compare::FAR_SAME;
@@ -27,11 +30,13 @@ use crate::draw::Plan;
 use crate::image;
 use crate::model;
 use crate::model::LARGEST;
+use crate::model::LENT;
 use crate::model::MADE;
 use crate::model::SPACE;
 use crate::model::Says;
 use crate::parents;
 use crate::say;
+use crate::walk;
 use layout::Store;
 
 // No call answers this.
@@ -39,9 +44,32 @@ const NO_ANSWER: usize = 99;
 
 // ---- an operation
 
-// What was found, or that the trace is another.
-fn trace_found(found: usize, held: bool) -> usize {
-    if found == 0 && !held { TRACE } else { found }
+// The bytes of trace that are told; a step's event is in its answer.
+fn told(o: Op, r: Says) -> usize {
+    if o.what == b't' {
+        return 0;
+    }
+    model::place(0, Store::EVENT, r.events)
+}
+
+// What differs: the answers, the trace, which is not held, or the walk from goto.
+fn differs(
+    loud: bool,
+    o: Op,
+    want: Says,
+    got: Says,
+    held: bool,
+    s: &[u8],
+    m: &mut [usize; SPACE],
+) -> usize {
+    let found = answers(loud, want, got, m);
+    if found != 0 {
+        return found;
+    }
+    if !held {
+        return TRACE;
+    }
+    beside::after(o, got, s, m)
 }
 
 // The operation with the trace t.
@@ -50,16 +78,12 @@ fn traced(loud: bool, o: Op, s: &mut [u8], m: &mut [usize; SPACE], t: &mut [u8])
     fill(t);
     let want = ask::of_model(o, m, &mut notes);
     let got = ask::of_store(o, s, t);
-    let held = holds(t, &notes, model::place(0, Store::EVENT, want.events));
-    trace_found(answers(loud, want, got, m), held)
+    let held = holds(t, &notes, told(o, want));
+    differs(loud, o, want, got, held, s, m)
 }
 
-// Where an operation is counted besides: a far by what its two are; the others where nothing is written.
-fn counted_at(o: Op, m: &[usize; SPACE]) -> usize {
-    let made = model::head(m, MADE);
-    if o.what != b'f' {
-        return 0;
-    }
+// A far is counted by what its two are.
+fn far_at(o: Op, made: usize) -> usize {
     if made <= o.one || made <= o.two {
         return FAR_NONE;
     }
@@ -72,6 +96,17 @@ fn counted_at(o: Op, m: &[usize; SPACE]) -> usize {
     FAR
 }
 
+// Where an operation is counted besides: far, and what comes during a walk; the others where nothing is written.
+fn counted_at(o: Op, m: &[usize; SPACE]) -> usize {
+    let what = o.what;
+    let walking = walk::walking(m);
+    match what {
+        b'f' => far_at(o, model::head(m, MADE)),
+        b'r' => if walking { DROPPED } else { 0 },
+        _ => if walking { DURING } else { 0 },
+    }
+}
+
 // Most bytes of trace that are lent.
 const LONGEST: usize = Store::EVENT * Store::NODES + 32;
 
@@ -81,6 +116,7 @@ fn operate(loud: bool, o: Op, s: &mut [u8], m: &mut [usize; SPACE]) -> usize {
     let i = counted_at(o, m);
     say::operation(loud, o);
     count(m, i, 1);
+    beside::before(o, s, m);
     if LONGEST < len {
         return SIZES;
     }
@@ -97,7 +133,7 @@ fn open(loud: bool, o: Opening, s: &mut [u8], m: &mut [usize; SPACE]) -> usize {
     let mut tops = [0u8; TOPS];
     let len = o.len;
     say::line(loud, say::OPEN, o.vars, o.nodes, len);
-    image::keep(s, m);
+    image::keep(LENT, s, m);
     draw::tops(o, &mut tops);
     if TOPS < len {
         return SIZES;
@@ -110,7 +146,7 @@ fn open(loud: bool, o: Opening, s: &mut [u8], m: &mut [usize; SPACE]) -> usize {
 // What here answers of the first `len` bytes; no answer where there are fewer.
 fn here_in(s: &[u8], len: usize) -> Says {
     if len <= s.len() {
-        ask::store_here(&s[0..len])
+        ask::store_reads(b'h', 0, 0, &s[0..len])
     } else {
         model::refused(NO_ANSWER)
     }
@@ -137,7 +173,7 @@ fn step(loud: bool, kind: usize, g: usize, s: &mut [u8], m: &mut [usize; SPACE])
     let o = draw::operation(kind, g, m);
     let what = o.what;
     match what {
-        b'd' => damage::damage(loud, g, s, m),
+        b'd' => damage::strike(loud, g, damage::some_blow(g, s, m), s, m),
         b'u' => damage::hollow(loud, g, s, m),
         b'o' => open(loud, draw::some_opening(g), s, m),
         b'c' => cut(loud, g, s, m),
@@ -149,19 +185,19 @@ fn step(loud: bool, kind: usize, g: usize, s: &mut [u8], m: &mut [usize; SPACE])
 
 // Before a step that goes by the bytes, and at first, the Bytes are compared; before another the second run goes Round. Then
 // comes the Step; then the Bytes are compared, then the Values; then nodes are their own Parents, and depths are False. The
-// second run is Equal to the first; after a step by the bytes it is Copied from it. A row for a turn in a larger store, in a small
-// one, for every sixteenth in a larger one, and for the last, which has no step; then the same where the step goes by the bytes,
-// or is the first.
-const PARTS: usize = 4 + parents::WAYS + depths::WAYS;
+// second run is Equal to the first; after a step by the bytes it is Copied from it. At the end a walk's two numbers become others
+// (X), and the walk makes a sTep. A row for a turn in a larger store, in a small one, for every sixteenth in a larger one, and for
+// the last, which has no step; then the same where the step goes by the bytes, or is the first.
+const PARTS: usize = 12 + parents::WAYS + depths::WAYS;
 
-const ACTS: [u8; 8 * PARTS] = *b"rs..............\
-    rsbv....e.......\
-    rsbvppppe.......\
-    .bevppppffffffff\
-    bsb.....c.......\
-    bsbv....c.......\
-    bsbvppppc.......\
-    .bevppppffffffff";
+const ACTS: [u8; 8 * PARTS] = *b"rs......................\
+    rsbv....e...............\
+    rsbvppppe...............\
+    .bevppppffffffffxxtbxxtb\
+    bsb.....c...............\
+    bsbv....c...............\
+    bsbvppppc...............\
+    .bevppppffffffffxxtbxxtb";
 
 // The bytes of a small store, and some more.
 const SMALL: usize = 512;
@@ -217,6 +253,8 @@ fn act(
         b'r' => doors::go_round(loud, g, draw::operation(p.kind, g, m), u, m),
         b'e' => doors::pair_agrees(loud, s, u, m),
         b'c' => doors::begin(s, u),
+        b'x' => damage::strike(loud, g, damage::of_walk(plus(g, k), k, m), s, m),
+        b't' => operate(loud, draw::made_op(b't', 0, 0), s, m),
         _ => 0,
     }
 }
@@ -224,7 +262,7 @@ fn act(
 // The generator's state after the part k.
 fn drawn(g: usize, k: usize) -> usize {
     if k % PARTS == PARTS - 1 {
-        draw::skip(g)
+        draw::next(draw::later(draw::later(g)))
     } else {
         g
     }

@@ -7,7 +7,7 @@ use libc::STDOUT_FILENO;
 
 // Each row ends in a dot. A, B and C stand for three numbers, V for B as the bits of a value, and / ends a line. There is a row
 // for each count by its number, then for the kinds of sequences, for what is found, for the operations, and the rows below.
-const TEXT: usize = 1544;
+const TEXT: usize = 1989;
 
 const ROWS: [u8; TEXT] = *b".\
     refused with 1=A/.\
@@ -19,6 +19,8 @@ const ROWS: [u8; TEXT] = *b".\
     refused with 7=A/.\
     refused with 8=A/.\
     .\
+    refused with 10=A/.\
+    refused with 11=A/.\
     sequences=A/.\
     operations=A/.\
     values compared=A/.\
@@ -38,6 +40,13 @@ const ROWS: [u8; TEXT] = *b".\
     shifted depths refused=A/.\
     runs with jumps put in compared=A/.\
     jumps put in=A/.\
+    operations during a walk, but far and drop=A/.\
+    events handed over by steps=A/.\
+    walks with the moves and events of goto and sets between=A/.\
+    walks with the moves, events and bytes of goto=A/.\
+    walks dropped=A/.\
+    false targets and winds refused=A/.\
+    other targets and winds still sound=A/.\
     deep.\
     bushy.\
     same variable.\
@@ -55,6 +64,7 @@ const ROWS: [u8; TEXT] = *b".\
     a damaged store was not refused, or a byte changed/.\
     the program has an error of its own/.\
     a run with jumps put in ends in other bytes/.\
+    the steps of a walk are together not goto/.\
     bind=A,V trace bytes=C/.\
     wind=A,B trace bytes=C/.\
     look=A trace bytes=C/.\
@@ -64,12 +74,16 @@ const ROWS: [u8; TEXT] = *b".\
     back=1 trace bytes=C/.\
     peek=A,B trace bytes=C/.\
     far=A,B trace bytes=C/.\
+    begin=A trace bytes=C/.\
+    step=1 trace bytes=C/.\
+    drop=1 trace bytes=C/.\
     seed=A kind=.\
     \x20lent after the store=A/vars=B/nodes=C/.\
     model: code=A out=V.\
     store: code=A out=V.\
     \x20moves=A events=B by=C/.\
     \x20moves=A events=B by=none/.\
+    \x20\x20event=A thunk=B/.\
     byte=A model=B store=C/.\
     the value of variable=A at=B/.\
     damage: byte=A number=B/.\
@@ -80,41 +94,43 @@ const ROWS: [u8; TEXT] = *b".\
     false depths: from node=A before=B plus=C/.\
     put in: a jump to=A/.";
 
-const KINDS: usize = 29;
+const KINDS: usize = 38;
 
-const FOUND: usize = 38;
+const FOUND: usize = 47;
 
-const OPERATIONS: usize = 46;
+const OPERATIONS: usize = 56;
 
-const SEED: usize = 55;
+const SEED: usize = 68;
 
-const PLAN: usize = 56;
+const PLAN: usize = 69;
 
-const MODEL: usize = 57;
+const MODEL: usize = 70;
 
-const STORE: usize = 58;
+const STORE: usize = 71;
 
-const SEEN: usize = 59;
+const SEEN: usize = 72;
 
-const UNSEEN: usize = 60;
+const UNSEEN: usize = 73;
 
-pub(crate) const BYTE: usize = 61;
+const HANDS: usize = 74;
 
-pub(crate) const VALUE: usize = 62;
+pub(crate) const BYTE: usize = 75;
 
-pub(crate) const DAMAGE: usize = 63;
+pub(crate) const VALUE: usize = 76;
 
-pub(crate) const HOLLOW: usize = 64;
+pub(crate) const DAMAGE: usize = 77;
 
-pub(crate) const OPEN: usize = 65;
+pub(crate) const HOLLOW: usize = 78;
 
-pub(crate) const CUT: usize = 66;
+pub(crate) const OPEN: usize = 79;
 
-pub(crate) const PARENT: usize = 67;
+pub(crate) const CUT: usize = 80;
 
-pub(crate) const DEPTHS: usize = 68;
+pub(crate) const PARENT: usize = 81;
 
-pub(crate) const JUMP: usize = 69;
+pub(crate) const DEPTHS: usize = 82;
+
+pub(crate) const JUMP: usize = 83;
 
 fn number(n: usize) {
     io::print_decimal(STDOUT_FILENO, n as u64);
@@ -178,7 +194,7 @@ pub(crate) fn line(loud: bool, which: usize, a: usize, b: usize, d: usize) {
 
 // What kind of disagreement was found.
 pub(crate) fn found(kind: usize) {
-    row(FOUND + kind % 8, 0, 0, 0);
+    row(FOUND + kind % 9, 0, 0, 0);
 }
 
 pub(crate) fn plan(loud: bool, seed: usize, p: Plan) {
@@ -197,18 +213,22 @@ fn which(what: u8) -> usize {
         b'g' => 5,
         b'k' => 6,
         b'f' => 8,
+        b'i' => 9,
+        b't' => 10,
+        b'r' => 11,
         _ => 7,
     }
 }
 
 pub(crate) fn operation(loud: bool, o: Op) {
-    line(loud, OPERATIONS + which(o.what) % 9, o.one, o.two, o.trace);
+    line(loud, OPERATIONS + which(o.what) % 12, o.one, o.two, o.trace);
 }
 
 fn answer(loud: bool, who: usize, a: Says) {
     let seen = if a.by == NO_ONE { UNSEEN } else { SEEN };
     line(loud, who, a.code, a.out, 0);
     line(loud, seen, a.moves, a.events, a.by);
+    line(loud, HANDS, a.event, a.thunk, 0);
 }
 
 pub(crate) fn answers(loud: bool, want: Says, got: Says) {

@@ -3,6 +3,7 @@ pub mod Cards
 pub mod Judging
 pub mod Running
 pub mod Roomy
+pub mod AtRest
 pub mod Tops
 pub mod Choice
 pub mod Examples

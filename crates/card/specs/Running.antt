@@ -32,14 +32,33 @@ callOf (Op.Goto a) = Call.switch (Goal.goto a)
 callOf Op.Back = Call.switch Goal.back
 callOf (Op.Peek a x) = Call.ask (Ask.peek a x)
 
--- ---- the numbers that a report shows; `none` stands for the 0 beside a refusal's number, and for nothing else
+-- no operation begins a walk, goes on with one or drops one (document 02, W5)
+abbrev pub isStride : Call → Bool
+isStride (Call.ask q) = false
+isStride (Call.make k) = false
+isStride (Call.set x v) = false
+isStride (Call.switch g) = false
+isStride (Call.stride k) = true
+
+pub no-stride : (o : Op) → isStride (callOf o) ≡ false
+no-stride (Op.Bind x v) = refl
+no-stride (Op.Wind p q) = refl
+no-stride (Op.Look x) = refl
+no-stride (Op.Set x v) = refl
+no-stride Op.Here = refl
+no-stride (Op.Goto a) = refl
+no-stride Op.Back = refl
+no-stride (Op.Peek a x) = refl
+
+-- ---- the numbers that a report shows; `none` stands for the 0 beside a refusal's number, and for nothing else; no event is
+-- handed over
 abbrev pub outOf : Out → ℤ
 outOf None = pos 0
 outOf (Number v) = v
 outOf (Value v by) = v
 
 abbrev pub shown : Report → Numbers
-shown r = record { code = r .code; out = outOf (r .out); moves = r .moves; events = r .events; by = byOf (r .out) }
+shown r = record { code = r .code; out = outOf (r .out); moves = r .moves; events = r .events; by = byOf (r .out); event = 0; thunk = 0 }
 
 abbrev pub Plain : ℕ → Out → Type 0
 Plain zero None = ⊥
@@ -72,9 +91,14 @@ refused-plain (Answer.Number n) k e = absurd (omega arith)
 refused-plain (Answer.Made m) k e = absurd (omega arith)
 refused-plain (Answer.Value v) k e = absurd (omega arith)
 refused-plain (Answer.Switched w) k e = absurd (omega arith)
+refused-plain (Answer.Stepped w) k e = absurd (omega arith)
 refused-plain (Answer.Refused r) k e = (refl, refl)
 
--- it shows the answer's numbers, and none beside a refusal alone
+-- no event is handed over
+abbrev pub Unhanded : Numbers → Type 0
+Unhanded n = (n .event ≡ 0) × (n .thunk ≡ 0)
+
+-- it shows the answer's numbers where no event is handed over, and none beside a refusal alone
 module _ (op : ℕ) (a : Answer) where
   abbrev n : Numbers
   n = numbers a
@@ -85,9 +109,9 @@ module _ (op : ℕ) (a : Answer) where
   out-shown zero e (some by) f = (refl, refl)
   out-shown (suc k) e b f = let (o, y) = refused-plain a k e in (sym o, sym y ∙ f)
 
-  pub shows : shown (reportOf op (flat n)) ≡ n
+  pub shows : Unhanded n → shown (reportOf op (flat n)) ≡ n
   unfolding reportOf flat
-  shows = let (o, y) = out-shown (n .code) refl (n .by) refl in λ i. record { code = n .code; out = o i; moves = n .moves; events = n .events; by = y i }
+  shows (e, f) = let (o, y) = out-shown (n .code) refl (n .by) refl in λ i. record { code = n .code; out = o i; moves = n .moves; events = n .events; by = y i; event = sym e i; thunk = sym f i }
 
   pub plainly : Plain (reportOf op (flat n) .code) (reportOf op (flat n) .out)
   unfolding reportOf flat outBy

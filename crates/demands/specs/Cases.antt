@@ -9,7 +9,7 @@ use mathlib.Core.Option.{none}
 use Prim.Native.Nat.{ℕ, zero, suc, _*_, _≤_, _<_}
 use Prim.Native.String.{String}
 use native.Mathlib.Omega.{arith}
-use mathlib.Core.List.{List, [], _∷_, _++_, map}
+use mathlib.Core.List.{List, [], _∷_, _++_}
 use lib.IntN.{ℤ, pos, negsuc}
 use lib.ListN.{length, take, length-take}
 use Rattle.rules.specs.Basic.{upd}
@@ -17,9 +17,10 @@ use Rattle.rules.specs.Tree.{path}
 use Rattle.rules.specs.Far.{far}
 use Rattle.rules.specs.Moves.{Event, route}
 use Rattle.rules.specs.Calls.{openDeep, deciderAt, decidedBy, valueAt}
-use Rattle.rules.specs.Refusals.{first, setup, damaged, noVariable, noEnvironment, noValue, full, traceRoom, atTop}
+use Rattle.rules.specs.Refusals.{first, setup, damaged, noVariable, noEnvironment, noValue, full, traceRoom, atTop, walking, notWalking}
 use Rattle.rules.specs.World.{alone}
-use Rattle.rules.specs.Act.{look, here, peek, bind, wind, goto, back, Call, ask, make, set, switch, isMade, nextNumber, isFull, shown, eventsOf, rows, answerOf, changed, outcome, act, run}
+use Rattle.rules.specs.Leg.{legTo}
+use Rattle.rules.specs.Act.{look, here, peek, bind, wind, goto, back, begin, step, drop, Call, ask, make, set, switch, stride, isMade, nextNumber, isFull, shown, eventsOf, rows, answerOf, changed, walkAfter, outcome, act, run}
 use Rattle.layout.specs.Limits.{maxVars, maxNodes, bareSize, sizeOf}
 use Rattle.layout.specs.Bytes.{part, u16}
 use Rattle.layout.specs.Records.{headOf, headN, vars, room, made, blankCell, ProperCell, bitsC, bareC, topC}
@@ -29,12 +30,13 @@ use Rattle.layout.specs.Made.{IsFull}
 use Rattle.layout.specs.Events.{eventD, eventB, eventsB}
 use Rattle.layout.specs.laws.Same.{part-take}
 use Rattle.layout.specs.Opening.{topCells}
-use Rattle.promises.specs.Answers.{Numbers, refusal, seen}
+use Rattle.promises.specs.Answers.{Numbers, refusal, done, seen}
 use Rattle.promises.specs.Tables.{First}
-use Rattle.promises.specs.Promises.{damagedRow, variableRow, fullRow, Openable, Opened, OpenPromise, BindPromise}
+use Rattle.promises.specs.Promises.{damagedRow, walkingRow, variableRow, fullRow, Openable, Opened, OpenPromise, BindPromise}
 use Rattle.promises.specs.Calls.{Promised, called, opens, opens-not}
+use Rattle.demands.specs.Tests.{no-walk}
 use Rattle.demands.specs.NeverRead.{damaged-only, one-made}
-use Rattle.demands.specs.Runs.{Said, Session, saidBy, opened-session}
+use Rattle.demands.specs.Runs.{Said, Session, saidOf, saidBy, opened-session}
 
 -- ---- the rows
 pub record Case : Type 1 where
@@ -86,13 +88,13 @@ Gives v k events tops cs said =
 
 -- what a call gives back: done with a number, with a value and its decider, after moves; or refused
 abbrev ok : ℕ → List Event → Said
-ok n es = record { numbers = record { code = 0; out = pos n; moves = 0; events = length es; by = none }; events = eventsB es }
+ok n es = record { numbers = done (pos n) 0 (length es); events = eventsB es }
 
 abbrev val : ℤ → ℕ → Said
 val v by = record { numbers = seen v by; events = [] }
 
 abbrev went : ℕ → ℕ → List Event → Said
-went n moves es = record { numbers = record { code = 0; out = pos n; moves = moves; events = length es; by = none }; events = eventsB es }
+went n moves es = record { numbers = done (pos n) moves (length es); events = eventsB es }
 
 abbrev no : ℕ → Said
 no k = record { numbers = refusal k; events = [] }
@@ -119,9 +121,9 @@ table =
     ∷ row "(b) its first bind is 6" FirstBindFull
     ∷ row "(c) N=2,048 opens" ((v : ℕ) → 1 ≤ v → v ≤ maxVars → Opens v 2048)
     ∷ row "(c) N=2,049 is 1" ((v : ℕ) → OpensNot v 2049)
-    ∷ row "(d) for V=1, N=4 a buffer of 69 opens" (OpensIn 69)
-    ∷ row "(d) a buffer of 68 is 1" (OpensNotIn 68)
-    ∷ row "(d) an opened store lent with 68 is 2" (LentShort 68)
+    ∷ row "(d) for V=1, N=4 a buffer of 73 opens" (OpensIn 73)
+    ∷ row "(d) a buffer of 72 is 1" (OpensNotIn 72)
+    ∷ row "(d) an opened store lent with 72 is 2" (LentShort 72)
     ∷ row "(e) x=V-1 is good" (Gives 2 4 0 (one ++ one) (ask (look 1) ∷ make (bind 1 (pos 5)) ∷ set 1 (pos 6) ∷ ask (peek 0 1) ∷ [])
     (val (pos 1) 0 ∷ ok 1 [] ∷ ok 1 [] ∷ val (pos 1) 0 ∷ []))
     ∷ row "(e) x=V is 3" (Gives 2 4 0 (one ++ one) (ask (look 2) ∷ make (bind 2 (pos 5)) ∷ set 2 (pos 6) ∷ ask (peek 0 2) ∷ [])
@@ -141,6 +143,27 @@ table =
     (no noValue ∷ ok 1 [] ∷ val (pos 3) 1 ∷ went 0 1 [] ∷ no noValue ∷ []))
     ∷ []
 
+-- .. and a walk in steps (document 02, W5), with the top value 1, a wind with prelude 10 and postlude 11 below the top and a binding
+-- of 5 below that. What a step hands over: 1 for entering or 0 for leaving, and the thunk, with the focus
+abbrev hands : ℕ → ℕ → ℕ → ℕ → Said
+hands n moves enters thunk = record { numbers = record { code = 0; out = pos n; moves = moves; events = 1; by = none; event = enters; thunk = thunk }; events = [] }
+
+abbrev pub inside : List Call → List Call
+inside cs = make (wind 10 11) ∷ make (bind 0 (pos 5)) ∷ cs
+
+abbrev walkTable : List Case
+walkTable =
+    row "(W5) out: the wind is left, then its postlude runs; done at the second step; no third"
+    (Gives 1 4 1 one (inside (stride (begin 0) ∷ stride step ∷ ask (look 0) ∷ stride step ∷ stride step ∷ []))
+    (ok 1 (enters 10 0 ∷ []) ∷ ok 2 [] ∷ ok 2 [] ∷ hands 0 2 0 11 ∷ val (pos 1) 0 ∷ ok 0 [] ∷ no notWalking ∷ []))
+    ∷ row "(W5) in: the prelude runs before the wind is entered; a set there is the top's"
+    (Gives 1 4 1 one (inside (switch (goto 0) ∷ stride (begin 2) ∷ stride step ∷ set 0 (pos 9) ∷ stride step ∷ ask (look 0) ∷ ask (peek 0 0) ∷ []))
+    (ok 1 (enters 10 0 ∷ []) ∷ ok 2 [] ∷ went 0 2 (leaves 11 0 ∷ []) ∷ ok 0 [] ∷ hands 0 0 1 10 ∷ ok 0 [] ∷ went 2 2 [] ∷ val (pos 5) 2 ∷ val (pos 9) 0 ∷ []))
+    ∷ row "(W5) during a walk bind, goto, back and a second begin are 10; dropped, it stays there"
+    (Gives 1 4 1 one (inside (stride (begin 0) ∷ stride step ∷ make (bind 9 (pos 0)) ∷ switch (goto 9) ∷ switch back ∷ stride (begin 9) ∷ stride drop ∷ stride drop ∷ stride (begin 9) ∷ []))
+    (ok 1 (enters 10 0 ∷ []) ∷ ok 2 [] ∷ ok 2 [] ∷ hands 0 2 0 11 ∷ no walking ∷ no walking ∷ no walking ∷ no walking ∷ ok 0 [] ∷ no notWalking ∷ no noEnvironment ∷ []))
+    ∷ []
+
 -- ---- opening
 openable : {v k : ℕ} {tops s : List ℕ} → 1 ≤ v → v ≤ maxVars → 1 ≤ k → k ≤ maxNodes → Tops v tops → sizeOf v k ≤ length s → Openable v k tops s
 openable a b c d tops e = record { fits = record { vars-low = a; vars-high = b; room-low = c; room-high = d; tops-long = tops .long }; proper = tops .proper; long = e }
@@ -156,31 +179,32 @@ first-bind v tops s s′ n o x w s″ m known p = go (p .answers .first)
     is-full : made s′ ≡ room s′
     is-full = one-made v 1 tops s s′ n o ∙ sym (o .nodes)
 
-    go : First (damagedRow s′ ∷ variableRow s′ x ∷ fullRow s′ ∷ []) (m .code) → (m ≡ refusal full) × (s″ ≡ s′)
+    go : First (damagedRow s′ ∷ walkingRow s′ ∷ variableRow s′ x ∷ fullRow s′ ∷ []) (m .code) → (m ≡ refusal full) × (s″ ≡ s′)
     go (inl (e, bad)) = absurd (bad (o .sound))
-    go (inr (a, inl (e, beyond))) = absurd (omega (arith, o .vars))
-    go (inr (a, inr (b, inl (e, f)))) = let (r, same) = p .answers .refused (omega arith) in (r ∙ ap refusal (sym e), same)
-    go (inr (a, inr (b, inr (never, e)))) = absurd (never is-full)
+    go (inr (a, inl (e, on))) = absurd (on (no-walk s′ (o .walk)))
+    go (inr (a, inr (out, inl (e, beyond)))) = absurd (omega (arith, o .vars))
+    go (inr (a, inr (out, inr (b, inl (e, f))))) = let (r, same) = p .answers .refused (omega arith) in (r ∙ ap refusal (sym e), same)
+    go (inr (a, inr (out, inr (b, inr (never, e))))) = absurd (never is-full)
 
--- ---- (d): a store of 69 bytes lent with 68
-short : (tops s s′ : List ℕ) (n : Numbers) → Opened 1 4 tops s s′ n → Sound (take 68 s′) → ⊥
+-- ---- (d): a store of 73 bytes lent with 72
+short : (tops s s′ : List ℕ) (n : Numbers) → Opened 1 4 tops s s′ n → Sound (take 72 s′) → ⊥
 unfolding headN headOf
 short tops s s′ n o ok =
-    let head = part-take s′ 68 0 8 (omega arith) in
-    let v : vars (take 68 s′) ≡ 1 = ap (λ (h : List ℕ). u16 h 0) head ∙ o .vars in
-    let r : room (take 68 s′) ≡ 4 = ap (λ (h : List ℕ). u16 h 2) head ∙ o .nodes in
-    omega (arith, ok .long, length-take 68 s′)
+    let head = part-take s′ 72 0 12 (omega arith) in
+    let v : vars (take 72 s′) ≡ 1 = ap (λ (h : List ℕ). u16 h 0) head ∙ o .vars in
+    let r : room (take 72 s′) ≡ 4 = ap (λ (h : List ℕ). u16 h 2) head ∙ o .nodes in
+    omega (arith, ok .whole .long, length-take 72 s′)
 
-lent-short : LentShort 68
+lent-short : LentShort 72
 lent-short tops s s′ n o c t s″ t″ m p =
-    let q = called c (take 68 s′) t s″ t″ m p in
-    let e : m .code ≡ 2 = damaged-only c (take 68 s′) t s″ t″ m (short tops s s′ n o) q in
+    let q = called c (take 72 s′) t s″ t″ m p in
+    let e : m .code ≡ 2 = damaged-only c (take 72 s′) t s″ t″ m (short tops s s′ n o) q in
     let (a, (b, d)) = q .refused (omega arith) in
     (a ∙ ap refusal e, b, d)
 
 -- ---- runs
 gives : (v k events : ℕ) (tops : List ℕ) (cs : List Call) (said : List Said) → 1 ≤ v → v ≤ maxVars → 1 ≤ k → k ≤ maxNodes → Tops v tops
-    → map saidBy (run (record { vars = v; nodes = k }) events cs (alone (openDeep (λ m. 0) (topCells v tops)))) ≡ said → Gives v k events tops cs said
+    → saidBy cs (run (record { vars = v; nodes = k }) events cs (alone (openDeep (λ m. 0) (topCells v tops)))) ≡ said → Gives v k events tops cs said
 gives v k events tops cs said a b c d t e s s′ n rs long p r =
     let o : Opened v k tops s s′ n = opens v k tops s s′ n p (openable a b c d t long) in
     (o .answer, opened-session v k events tops s s′ n cs rs o r ∙ e)
@@ -212,15 +236,15 @@ tops-none = record { long = refl; proper = proper }
 
 -- V and N of the runs are in range
 one-var : (events : ℕ) (tops : List ℕ) (cs : List Call) (said : List Said) → Tops 1 tops
-    → map saidBy (run (record { vars = 1; nodes = 4 }) events cs (alone (openDeep (λ m. 0) (topCells 1 tops)))) ≡ said → Gives 1 4 events tops cs said
+    → saidBy cs (run (record { vars = 1; nodes = 4 }) events cs (alone (openDeep (λ m. 0) (topCells 1 tops)))) ≡ said → Gives 1 4 events tops cs said
 one-var events tops cs said t e = gives 1 4 events tops cs said (omega arith) (omega arith) (omega arith) (omega arith) t e
 
 two-vars : (cs : List Call) (said : List Said)
-    → map saidBy (run (record { vars = 2; nodes = 4 }) 0 cs (alone (openDeep (λ m. 0) (topCells 2 (one ++ one))))) ≡ said → Gives 2 4 0 (one ++ one) cs said
+    → saidBy cs (run (record { vars = 2; nodes = 4 }) 0 cs (alone (openDeep (λ m. 0) (topCells 2 (one ++ one))))) ≡ said → Gives 2 4 0 (one ++ one) cs said
 two-vars cs said e = gives 2 4 0 (one ++ one) cs said (omega arith) (omega arith) (omega arith) (omega arith) tops-two e
 
 pub cases : All table
-unfolding saidBy run act outcome rows answerOf eventsOf changed shown isMade nextNumber isFull first upd path route far valueAt deciderAt decidedBy topCells asCell topC bareC bitsC part eventsB eventB eventD
+unfolding saidBy saidOf run act outcome rows answerOf eventsOf changed walkAfter shown isMade nextNumber isFull first upd path route far valueAt deciderAt decidedBy topCells asCell topC bareC bitsC part eventsB eventB eventD
 cases = (
   λ k a b. opens-well 256 k (omega arith) (omega arith) a b,
   (
@@ -276,3 +300,7 @@ cases = (
     ),
   ),
 )
+
+pub walk-cases : All walkTable
+unfolding saidBy saidOf run act outcome rows answerOf eventsOf changed walkAfter shown isMade nextNumber isFull first upd path route far valueAt deciderAt decidedBy legTo topCells asCell topC bareC bitsC part eventsB eventB eventD
+walk-cases = (one-var 1 one _ _ tops-one refl, (one-var 1 one _ _ tops-one refl, (one-var 1 one _ _ tops-one refl, tt)))

@@ -7,7 +7,7 @@ use mathlib.Core.Option.{none}
 use Prim.Native.Nat.{ℕ, _*_, _≤_, _<_}
 use native.Mathlib.Omega.{arith}
 use native.Mathlib.Decide.{ℕ-discrete, decLt}
-use mathlib.Core.List.{List, [], _∷_}
+use mathlib.Core.List.{List, _∷_}
 use lib.ListN.{length, take, drop}
 use lib.Seq.{take-at, drop-at}
 use lib.Dec.{eqb}
@@ -17,7 +17,7 @@ use Rattle.rules.specs.Values.{unbound}
 use Rattle.rules.specs.Store.{Deep, home}
 use Rattle.rules.specs.Moves.{Event}
 use Rattle.rules.specs.Calls.{deciderAt, valueAt, look-right, openWhat}
-use Rattle.rules.specs.World.{World, alone}
+use Rattle.rules.specs.World.{World}
 use Rattle.rules.specs.Act.{Call, Outcome, act}
 use Rattle.rules.specs.Effects.{SameDeep}
 use Rattle.layout.specs.Limits.{eventSize, sizeOf}
@@ -31,15 +31,16 @@ use Rattle.layout.specs.laws.EventLaws.{events-length}
 use Rattle.layout.specs.laws.Laws.{of-buffer, cell-past}
 use Rattle.layout.specs.laws.SoundLaws.{what-top, what-blank, up-top, up-blank, Place, is-top, is-inner, is-blank, place, blank-node, sound-fit, sound-view}
 use Rattle.layout.specs.Bytes.{Bytes}
-use Rattle.layout.specs.laws.Same.{same-meant, AgreeTo, agree-vars, agree-room, agree-view, agree-sound, agree-back}
+use Rattle.layout.specs.laws.Same.{same-meant, AgreeTo, agree-vars, agree-room, agree-view, agree-walk, agree-sound, agree-back}
+use Rattle.layout.specs.laws.StrideLaws.{walk-once}
 use Rattle.layout.specs.Opening.{topCells}
 use mathlib.Core.Logic.{inl}
 use Rattle.promises.specs.Answers.{Numbers, refusal}
 use Rattle.promises.specs.Tables.{first-one}
-use Rattle.promises.specs.Promises.{meaning, at, roomFor, damagedRow, Opened, Openable, OpenPromise}
+use Rattle.promises.specs.Promises.{meaning, world, at, roomFor, damagedRow, Opened, Openable, OpenPromise}
 use Rattle.promises.specs.Calls.{Promised, table, Called, called, Code, is-done, is-refused, code-of, done-sound, opens, opens-not}
-use Rattle.demands.specs.Tests.{sizeAt}
-use Rattle.demands.specs.AsAct.{acted, numbersOf, AsAct, as-act}
+use Rattle.demands.specs.Tests.{sizeAt, tracedBy}
+use Rattle.demands.specs.AsAct.{acted, numbersOf, keeps-size, AsAct, as-act}
 
 -- ---- a store that is not sound is refused as such
 pub damaged-only : (c : Call) (s t s′ t′ : List ℕ) (n : Numbers) → (Sound s → ⊥) → Called c s t s′ t′ n → n .code ≡ 2
@@ -48,8 +49,8 @@ damaged-only c s t s′ t′ n bad p = first-one (damagedRow s ∷ table c s t) 
 -- ---- two runs of one call: from stores that agree up to the size, with traces of equal room
 module _ (c : Call) (s u t w : List ℕ) (agree : AgreeTo s u) (rooms : roomFor t ≡ roomFor w) where
   acted-alike : acted c s t ≡ acted c u w
-  unfolding acted sizeAt meaning
-  acted-alike = λ i. act (record { vars = agree-vars s u agree i; nodes = agree-room s u agree i }) (rooms i) c (alone (home (agree-view s u agree i)))
+  unfolding acted sizeAt world meaning
+  acted-alike = λ i. act (record { vars = agree-vars s u agree i; nodes = agree-room s u agree i }) (rooms i) c (record { store = home (agree-view s u agree i); walk = agree-walk s u agree i })
 
   -- both are refused alike, or both are `act`'s
   pub data Fate (s′ u′ t′ w′ : List ℕ) (n m : Numbers) : Type 0 where
@@ -64,8 +65,8 @@ module _ (c : Call) (s u t w : List ℕ) (agree : AgreeTo s u) (rooms : roomFor 
 
       codes : Sound s → n .code ≡ m .code
       codes ok =
-          let a : n ≡ numbersOf (acted c s t) = as-act c s t s′ t′ n ok p .answer in
-          let b : m ≡ numbersOf (acted c u w) = as-act c u w u′ w′ m (agree-sound s u agree ok) q .answer in
+          let a : n ≡ numbersOf c (acted c s t) = as-act c s t s′ t′ n ok p .answer in
+          let b : m ≡ numbersOf c (acted c u w) = as-act c u w u′ w′ m (agree-sound s u agree ok) q .answer in
           cc (acted-alike)
 
       go : Dec (n .code ≡ m .code) → Code n → Fate s′ u′ t′ w′ n m
@@ -94,32 +95,69 @@ deep-same e = record {
   values = λ a x. ap (λ (k : Deep). valueAt k a x) e;
 }
 
+-- sound stores of one size, with the same meaning and the same walk, have the same bytes up to the size
+pub same-world : (s t : List ℕ) → Sound s → Sound t → Bytes s → Bytes t → vars s ≡ vars t → room s ≡ room t → world s ≡ world t
+    → take (sizeOf (vars s) (room s)) s ≡ take (sizeOf (vars s) (room s)) t
+unfolding world meaning
+same-world s t ok ok′ b b′ v r e =
+    let (a, h) = walk-once ok ok′ (ap (λ (w : World Deep). w .walk) e) in
+    same-meant s t (ok .whole) (ok′ .whole) b b′ v r a h (deep-same (ap (λ (w : World Deep). w .store) e))
+
+-- how many events a call with these numbers wrote to the trace: a step's is in its answer
+abbrev pub written : Call → Numbers → ℕ
+written (Call.ask q) n = n .events
+written (Call.make k) n = n .events
+written (Call.set x v) n = n .events
+written (Call.switch g) n = n .events
+written (Call.stride k) n = 0
+
+-- they are those that `act` tells the trace
+pub written-as : (c : Call) (n : Numbers) (o : Outcome (World Deep)) → n ≡ numbersOf c o → written c n ≡ length (tracedBy c (o .events))
+unfolding numbersOf
+written-as (Call.ask q) n o e = ap (λ (k : Numbers). k .events) e
+written-as (Call.make k) n o e = ap (λ (k : Numbers). k .events) e
+written-as (Call.set x v) n o e = ap (λ (k : Numbers). k .events) e
+written-as (Call.switch g) n o e = ap (λ (k : Numbers). k .events) e
+written-as (Call.stride k) n o e = refl
+
+written-none : (c : Call) (n : Numbers) → n .events ≡ 0 → written c n ≡ 0
+written-none (Call.ask q) n e = e
+written-none (Call.make k) n e = e
+written-none (Call.set x v) n e = e
+written-none (Call.switch g) n e = e
+written-none (Call.stride k) n e = refl
+
 -- equal answers, equal bytes up to the size, equal events
 pub never-read : (c : Call) (s u t w s′ u′ t′ w′ : List ℕ) (n m : Numbers) → AgreeTo s u → roomFor t ≡ roomFor w → Bytes s′ → Bytes u′
     → Promised c s t s′ t′ n → Promised c u w u′ w′ m
-    → (n ≡ m) × (take (sizeOf (vars s) (room s)) s′ ≡ take (sizeOf (vars s) (room s)) u′) × (take (eventSize * n .events) t′ ≡ take (eventSize * n .events) w′)
+    → (n ≡ m) × (take (sizeOf (vars s) (room s)) s′ ≡ take (sizeOf (vars s) (room s)) u′) × (take (eventSize * written c n) t′ ≡ take (eventSize * written c n) w′)
 unfolding numbersOf meaning
 never-read c s u t w s′ u′ t′ w′ n m agree rooms b b′ p q = go (fate c s u t w agree rooms s′ u′ t′ w′ n m (called c s t s′ t′ n p) (called c u w u′ w′ m q))
   where
     size : ℕ
     size = sizeOf (vars s) (room s)
 
-    go : Fate c s u t w agree rooms s′ u′ t′ w′ n m → (n ≡ m) × (take size s′ ≡ take size u′) × (take (eventSize * n .events) t′ ≡ take (eventSize * n .events) w′)
+    go : Fate c s u t w agree rooms s′ u′ t′ w′ n m → (n ≡ m) × (take size s′ ≡ take size u′) × (take (eventSize * written c n) t′ ≡ take (eventSize * written c n) w′)
     go (both-refused e r f g h k) =
-        let none-told : n .events ≡ 0 = ap (λ (o : Numbers). o .events) r in
+        let none-told : written c n ≡ 0 = written-none c n (ap (λ (o : Numbers). o .events) r) in
         (e, rw (f, g) agree, rw none-told refl)
     go (both-acted ok x y) =
         let same : acted c s t ≡ acted c u w = acted-alike c s u t w agree rooms in
-        let means : meaning s′ ≡ meaning u′ = ap (λ (v : World Deep). v .store) (x .meaning ∙ ap (λ (o : Outcome (World Deep)). o .after) same ∙ sym (y .meaning)) in
-        let v : vars s′ ≡ vars u′ = x .kept .vars ∙ agree-vars s u agree ∙ sym (y .kept .vars) in
-        let r : room s′ ≡ room u′ = x .kept .room ∙ agree-room s u agree ∙ sym (y .kept .room) in
-        let bytes = same-meant s′ u′ (x .sound) (y .sound) b b′ v r (deep-same means) in
-        let count : n .events ≡ length (acted c s t .events) = ap (λ (o : Numbers). o .events) (x .answer) in
-        let told-s = ap (take (eventSize * length (acted c s t .events))) (x .events) ∙ told-take (acted c s t .events) t in
-        let told-u = ap (take (eventSize * length (acted c u w .events))) (y .events) ∙ told-take (acted c u w .events) w in (
-          x .answer ∙ ap numbersOf same ∙ sym (y .answer),
-          rw (x .kept .vars, x .kept .room) at bytes,
-          rw count (told-s ∙ sym (rw (← same) at told-u)),
+        let means : world s′ ≡ world u′ = x .meaning ∙ ap (λ (o : Outcome (World Deep)). o .after) same ∙ sym (y .meaning) in
+        let k = keeps-size c s s′ (x .kept) in
+        let k′ = keeps-size c u u′ (y .kept) in
+        let v : vars s′ ≡ vars u′ = k .vars ∙ agree-vars s u agree ∙ sym (k′ .vars) in
+        let r : room s′ ≡ room u′ = k .room ∙ agree-room s u agree ∙ sym (k′ .room) in
+        let bytes = same-world s′ u′ (x .sound) (y .sound) b b′ v r means in
+        let es : List Event = tracedBy c (acted c s t .events) in
+        let fs : List Event = tracedBy c (acted c u w .events) in
+        let one : es ≡ fs = ap (λ (o : Outcome (World Deep)). tracedBy c (o .events)) same in
+        let count : written c n ≡ length es = written-as c n (acted c s t) (x .answer) in
+        let told-s : take (eventSize * length es) t′ ≡ eventsB es = ap (take (eventSize * length es)) (x .events) ∙ told-take es t in
+        let told-u : take (eventSize * length fs) w′ ≡ eventsB fs = ap (take (eventSize * length fs)) (y .events) ∙ told-take fs w in (
+          x .answer ∙ ap (numbersOf c) same ∙ sym (y .answer),
+          rw (k .vars, k .room) at bytes,
+          rw count (told-s ∙ sym (rw (← one) at told-u)),
         )
 
 cell-below : (v : ℕ) (tops : List ℕ) (x : ℕ) → x < v → topCells v tops x ≡ asCell (topC tops x)
@@ -138,39 +176,39 @@ module _ (v n : ℕ) (tops s s′ : List ℕ) (out : Numbers) (o : Opened v n to
     where
       go : Dec (1 < made s′) → made s′ ≡ 1
       go (yes l) = absurd (omega (arith, o .only-top 1 l))
-      go (no l) = omega (arith, o .sound .fields .shape .head .made-low)
+      go (no l) = omega (arith, o .sound .whole .fields .shape .head .made-low)
 
   pub opened-what : (a : ℕ) → view s′ .tree .what a ≡ openWhat (eqb a 0)
   unfolding view viewF treeF fieldsOf
   opened-what a = go (place (made s′) a)
     where
       go : Place (made s′) a → whatN (nodes s′ a) ≡ openWhat (eqb a 0)
-      go (is-top e) = rw e (ap whatN (o .sound .fields .shape .top) ∙ what-top)
+      go (is-top e) = rw e (ap whatN (o .sound .whole .fields .shape .top) ∙ what-top)
       go (is-inner l h) = absurd (omega (arith, one-made))
       go (is-blank l) =
           rw (ne-eqb a 0 (λ e. omega (arith, one-made)))
-          (ap whatN (blank-node (fieldsOf s′) (of-buffer s′ (sound-fit s′ (o .sound))) (o .sound .fields .shape) a l) ∙ what-blank)
+          (ap whatN (blank-node (fieldsOf s′) (of-buffer s′ (sound-fit s′ (o .sound .whole))) (o .sound .whole .fields .shape) a l) ∙ what-blank)
 
   pub opened-up : (a : ℕ) → view s′ .tree .up a ≡ none
   unfolding view viewF treeF fieldsOf
   opened-up a = go (place (made s′) a)
     where
       go : Place (made s′) a → upN (nodes s′ a) ≡ none
-      go (is-top e) = rw e (ap upN (o .sound .fields .shape .top) ∙ up-top)
+      go (is-top e) = rw e (ap upN (o .sound .whole .fields .shape .top) ∙ up-top)
       go (is-inner l h) = absurd (omega (arith, one-made))
-      go (is-blank l) = ap upN (blank-node (fieldsOf s′) (of-buffer s′ (sound-fit s′ (o .sound))) (o .sound .fields .shape) a l) ∙ up-blank
+      go (is-blank l) = ap upN (blank-node (fieldsOf s′) (of-buffer s′ (sound-fit s′ (o .sound .whole))) (o .sound .whole .fields .shape) a l) ∙ up-blank
 
   -- every environment's value is the top's
   top-value : (a x : ℕ) → at s′ a x ≡ at s′ 0 x
   unfolding at valueAt deciderAt meaning home
   top-value a x =
-      let proper = sound-view s′ (o .sound) .proper in
+      let proper = sound-view s′ (o .sound .whole) .proper in
       rw (path-top (view s′ .tree) proper a (opened-up a), path-top (view s′ .tree) proper 0 (opened-up 0))
 
   past-vars : (x : ℕ) → v ≤ x → at s′ 0 x ≡ unbound
   unfolding at meaning view viewF fieldsOf asCell bareC
   past-vars x h =
-      ap (λ (a : ℕ). at s′ a x) (sym (o .focus)) ∙ sym (look-right (view s′) (sound-view s′ (o .sound)) x)
+      ap (λ (a : ℕ). at s′ a x) (sym (o .focus)) ∙ sym (look-right (view s′) (sound-view s′ (o .sound .whole)) x)
       ∙ ap (λ (c : List ℕ). asCell (bareC c)) (cell-past s′ x (omega (arith, o .vars)))
 
   pub opened-value : (a x : ℕ) → at s′ a x ≡ topCells v tops x
@@ -191,7 +229,8 @@ opened-alike v n tops s u s′ u′ out out′ b b′ o o′ =
       parents = λ a. opened-up v n tops s s′ out o a ∙ sym (opened-up v n tops u u′ out′ o′ a);
       values = λ a x. opened-value v n tops s s′ out o a x ∙ sym (opened-value v n tops u u′ out′ o′ a x);
     } in
-    let bytes = same-meant s′ u′ (o .sound) (o′ .sound) b b′ (o .vars ∙ sym (o′ .vars)) (o .nodes ∙ sym (o′ .nodes)) same in
+    let (a, h) = walk-once (o .sound) (o′ .sound) (o .walk ∙ sym (o′ .walk)) in
+    let bytes = same-meant s′ u′ (o .sound .whole) (o′ .sound .whole) b b′ (o .vars ∙ sym (o′ .vars)) (o .nodes ∙ sym (o′ .nodes)) a h same in
     (o .answer ∙ sym (o′ .answer), rw (o .vars, o .nodes) at bytes)
 
 longer : {v n : ℕ} {tops s u : List ℕ} → length s ≡ length u → Openable v n tops s → Openable v n tops u

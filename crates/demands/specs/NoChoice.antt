@@ -8,8 +8,8 @@ use lib.ListN.{take, drop, take-append-drop}
 use Rattle.rules.specs.Act.{Call}
 use Rattle.layout.specs.Limits.{sizeOf}
 use Rattle.layout.specs.Records.{vars, room}
-use Rattle.layout.specs.Becomes.{Kept}
-use Rattle.layout.specs.laws.WalkLaws.{kept-self}
+use Rattle.layout.specs.Becomes.{Sized}
+use Rattle.layout.specs.laws.WalkLaws.{sized-self}
 use Rattle.layout.specs.Bytes.{Bytes}
 use Rattle.layout.specs.laws.Same.{same-whole}
 use Rattle.promises.specs.Answers.{Numbers}
@@ -18,12 +18,12 @@ use Rattle.promises.specs.Calls.{Promised, Called, called, Code, is-done, is-re
 use Rattle.demands.specs.NeverRead.{Fate, both-refused, both-acted, fate, never-read, never-read-open}
 
 -- every call leaves the size, the length and the bytes past the size
-pub keeps : (c : Call) (s t s′ t′ : List ℕ) (n : Numbers) → Called c s t s′ t′ n → Kept s s′
+pub keeps : (c : Call) (s t s′ t′ : List ℕ) (n : Numbers) → Called c s t s′ t′ n → Sized s s′
 keeps c s t s′ t′ n p = go (code-of n)
   where
-    go : Code n → Kept s s′
+    go : Code n → Sized s s′
     go (is-done e) = done-leaves c s t s′ t′ n (done-sound p e) (p .done e) .1
-    go (is-refused h) = rw (p .refused h .1 .0) (kept-self s)
+    go (is-refused h) = rw (p .refused h .1 .0) (sized-self s)
 
 module _ (s t s′ t′ s″ t″ : List ℕ) (n m : Numbers) where
   -- the two outcomes are one
@@ -34,8 +34,8 @@ module _ (s t s′ t′ s″ t″ : List ℕ) (n m : Numbers) where
     pub no-choice : (c : Call) → Promised c s t s′ t′ n → Promised c s t s″ t″ m → One
     no-choice c p q =
         let (e, bytes, events) = never-read c s s t t s′ s″ t′ t″ n m refl refl b b′ p q in
-        let k : Kept s s′ = keeps c s t s′ t′ n (called c s t s′ t′ n p) in
-        let k′ : Kept s s″ = keeps c s t s″ t″ m (called c s t s″ t″ m q) in
+        let k : Sized s s′ = keeps c s t s′ t′ n (called c s t s′ t′ n p) in
+        let k′ : Sized s s″ = keeps c s t s″ t″ m (called c s t s″ t″ m q) in
         let v : vars s′ ≡ vars s″ = k .vars ∙ sym (k′ .vars) in
         let r : room s′ ≡ room s″ = k .room ∙ sym (k′ .room) in (
           e,

@@ -8,9 +8,10 @@ use Rattle.layout.specs.Limits.{maxVars, maxNodes, header, cellSize, nodeSize, 
 use Rattle.promises.specs.Answers.{Numbers}
 use Rattle.kestrelnib.specs.declared.Reply.{Reply}
 
--- `by` is 0 where there is none: on a refusal, and from calls that answer no value
+-- `by` is 0 where there is none: on a refusal, and from calls that answer no value; so are `thunk` and `event` where no event is
+-- handed over
 unfoldable pub replyOf : Numbers → Reply
-replyOf n = record { out = n .out; code = n .code; moves = n .moves; events = n .events; by = orTop (n .by) }
+replyOf n = record { out = n .out; code = n .code; moves = n .moves; events = n .events; by = orTop (n .by); thunk = n .thunk; event = n .event }
 
 -- the reply r hands over numbers of which P holds
 abbrev pub Hands : Reply → (Numbers → Type 0) → Type 0

@@ -5,9 +5,9 @@ use mathlib.Core.Path.{_≡_, refl, sym, _∙_}
 use Prim.Native.Nat.{ℕ}
 use mathlib.Core.List.{List}
 use lib.IntN.{ℤ}
-use Rattle.rules.specs.Act.{Ask, Child, Goal, Call}
+use Rattle.rules.specs.Act.{Ask, Child, Goal, Stride, Call}
 use Rattle.layout.specs.Bytes.{Bytes}
-use Rattle.promises.specs.Promises.{OpenPromise, LookPromise, PeekPromise, FarPromise, HerePromise, SetPromise, BindPromise, WindPromise, GotoPromise, BackPromise}
+use Rattle.promises.specs.Promises.{OpenPromise, LookPromise, PeekPromise, FarPromise, HerePromise, SetPromise, BindPromise, WindPromise, GotoPromise, BackPromise, BeginPromise, StepPromise, DropPromise}
 use Rattle.demands.specs.NoChoice.{no-choice, no-choice-untraced, open-one}
 use Rattle.kestrelnib.specs.declared.Reply.{Reply}
 use Rattle.kestrelnib.specs.Face.{Hands, hands-one}
@@ -41,6 +41,15 @@ module _ (s s′ s″ : List ℕ) (b : Bytes s′) (b′ : Bytes s″) (r q : Re
 
   pub kn-far-one : (a k : ℕ) → Hands r (FarPromise s a k s′) → Hands q (FarPromise s a k s″) → (r ≡ q) × (s′ ≡ s″)
   kn-far-one a k = hands-one (λ n m h l. no-choice-untraced s s′ s″ n m b b′ (Call.ask (Ask.far a k)) (h, refl) (l, refl))
+
+  pub kn-begin-one : (a : ℕ) → Hands r (BeginPromise s a s′) → Hands q (BeginPromise s a s″) → (r ≡ q) × (s′ ≡ s″)
+  kn-begin-one a = hands-one (λ n m h l. no-choice-untraced s s′ s″ n m b b′ (Call.stride (Stride.begin a)) (h, refl) (l, refl))
+
+  pub kn-step-one : Hands r (StepPromise s s′) → Hands q (StepPromise s s″) → (r ≡ q) × (s′ ≡ s″)
+  kn-step-one = hands-one (λ n m h l. no-choice-untraced s s′ s″ n m b b′ (Call.stride Stride.step) (h, refl) (l, refl))
+
+  pub kn-drop-one : Hands r (DropPromise s s′) → Hands q (DropPromise s s″) → (r ≡ q) × (s′ ≡ s″)
+  kn-drop-one = hands-one (λ n m h l. no-choice-untraced s s′ s″ n m b b′ (Call.stride Stride.drop) (h, refl) (l, refl))
 
   module _ (t t′ t″ : List ℕ) where
     pub kn-wind-one : (p k : ℕ) → Hands r (WindPromise s t p k s′ t′) → Hands q (WindPromise s t p k s″ t″) → (r ≡ q) × ((s′ ≡ s″) × (t′ ≡ t″))

@@ -1,12 +1,13 @@
-// The C face: the ten calls for the firmware. Each hands its numbers and buffers on, and its answer back as one plain struct.
+// The C face: the thirteen calls for the firmware. Each hands its numbers and buffers on, and its answer back as one plain struct.
 ghost use mathlib.Core.Path.{_≡_};
 ghost use Rattle.promises.specs.Answers.{numbers};
-ghost use Rattle.promises.specs.Promises.{OpenPromise, BindPromise, WindPromise, LookPromise, SetPromise, HerePromise, GotoPromise, BackPromise, PeekPromise, FarPromise};
+ghost use Rattle.promises.specs.Promises.{OpenPromise, BindPromise, WindPromise, LookPromise, SetPromise, HerePromise, GotoPromise, BackPromise, PeekPromise, FarPromise, BeginPromise, StepPromise, DropPromise};
 ghost use Rattle.kestrelnib.specs.Face.{replyOf, Hands, limit};
 use promises::Answer;
 use promises::numbers_of;
 
-// Document 01's numbers of an answer: the answer itself, its number, the moves, the number of events; of a value the decider.
+// Document 01's numbers of an answer: the answer itself, its number, the moves, the number of events; of a value the decider,
+// of a step the thunk and the event that it hands over.
 #[repr(C)]
 pub struct Reply {
     pub out: i32,
@@ -14,6 +15,8 @@ pub struct Reply {
     pub moves: u16,
     pub events: u16,
     pub by: u16,
+    pub thunk: u16,
+    pub event: u16,
 }
 
 fn numbered(a: Answer) -> Reply
@@ -26,6 +29,8 @@ fn numbered(a: Answer) -> Reply
         moves: n.moves,
         events: n.events,
         by: n.by,
+        thunk: n.thunk,
+        event: n.event,
     }
 }
 
@@ -98,6 +103,27 @@ pub extern "C" fn kn_far(store: &[u8], a: u32, b: u32) -> Reply
     ensures { λ r. ⌜ Hands r (FarPromise (now (store .entry)) a b (now (store .exit))) ⌝ }
 {
     numbered(store::far(store, a, b))
+}
+
+#[no_mangle]
+pub extern "C" fn kn_begin(store: &mut [u8], a: u32) -> Reply
+    ensures { λ r. ⌜ Hands r (BeginPromise (now (store .entry)) a (now (store .exit))) ⌝ }
+{
+    numbered(store::begin(store, a))
+}
+
+#[no_mangle]
+pub extern "C" fn kn_step(store: &mut [u8]) -> Reply
+    ensures { λ r. ⌜ Hands r (StepPromise (now (store .entry)) (now (store .exit))) ⌝ }
+{
+    numbered(store::step(store))
+}
+
+#[no_mangle]
+pub extern "C" fn kn_drop(store: &mut [u8]) -> Reply
+    ensures { λ r. ⌜ Hands r (DropPromise (now (store .entry)) (now (store .exit))) ⌝ }
+{
+    numbered(store::drop(store))
 }
 
 // The library's own limits and sizes, by their place in document 01's list, so that a test can hold the header to them.

@@ -25,6 +25,12 @@ madeF f = f .head 2
 abbrev pub focusF : Fields → ℕ
 focusF f = f .head 3
 
+abbrev pub targetF : Fields → ℕ
+targetF f = f .head 4
+
+abbrev pub handedF : Fields → ℕ
+handedF f = f .head 5
+
 unfoldable pub cells : List ℕ → ℕ → List ℕ
 cells s x = cond (ltb x (vars s)) (cellOf s x) (replicate cellSize 0)
 

@@ -4,7 +4,7 @@ use Prim.Native.Nat.{ℕ, _+_, _*_}
 use Rattle.layout.specs.declared.Sizes.{Sizes}
 
 abbrev pub limits : Sizes
-limits = record { vars = 256; nodes = 2048; header = 8; cell = 5; bare = 5; node = 14; event = 5 }
+limits = record { vars = 256; nodes = 2048; header = 12; cell = 5; bare = 5; node = 14; event = 5; none = 65535 }
 
 abbrev pub maxVars : ℕ
 maxVars = limits .vars
@@ -27,6 +27,10 @@ nodeSize = limits .node
 
 abbrev pub eventSize : ℕ
 eventSize = limits .event
+
+-- stands in the header for no target, and for no wind (document 02, W5)
+abbrev pub noneN : ℕ
+noneN = limits .none
 
 -- where the cell of x begins, where the node n begins, and where a store of v variables and n environments ends
 abbrev pub cellAt : ℕ → ℕ

@@ -12,7 +12,8 @@ use mir.Val.{ofZ}
 use Rattle.layout.specs.Limits.{header, cellSize, bareSize, nodeSize, cellAt, nodeAt}
 use Rattle.layout.specs.Bytes.{part, splice, u16, put16}
 
--- ---- the header: its numbers in two bytes each, V, N, made, focus
+-- ---- the header: its numbers in two bytes each, V, N, made, focus, and of a walk its target and the wind whose entering was
+-- handed over (document 02, W5)
 unfoldable pub headOf : List ℕ → List ℕ
 headOf s = part s 0 header
 
@@ -24,8 +25,10 @@ unfoldable pub withHead : List ℕ → ℕ → ℕ → List ℕ
 withHead s k v = splice s 0 header (put16 (headOf s) (2 * k) v)
 
 -- a whole header, and the buffer with it
-unfoldable pub headB : ℕ → ℕ → ℕ → ℕ → List ℕ
-headB v n m f = v % 256 ∷ v / 256 ∷ n % 256 ∷ n / 256 ∷ m % 256 ∷ m / 256 ∷ f % 256 ∷ f / 256 ∷ []
+unfoldable pub headB : ℕ → ℕ → ℕ → ℕ → ℕ → ℕ → List ℕ
+headB v n m f a c =
+    v % 256 ∷ v / 256 ∷ n % 256 ∷ n / 256 ∷ m % 256 ∷ m / 256 ∷ f % 256 ∷ f / 256 ∷
+    a % 256 ∷ a / 256 ∷ c % 256 ∷ c / 256 ∷ []
 
 unfoldable pub withHeader : List ℕ → List ℕ → List ℕ
 withHeader s h = splice s 0 header h
@@ -42,11 +45,23 @@ made s = headN s 2
 abbrev pub focus : List ℕ → ℕ
 focus s = headN s 3
 
+abbrev pub target : List ℕ → ℕ
+target s = headN s 4
+
+abbrev pub handed : List ℕ → ℕ
+handed s = headN s 5
+
 abbrev pub withMade : List ℕ → ℕ → List ℕ
 withMade s m = withHead s 2 m
 
 abbrev pub withFocus : List ℕ → ℕ → List ℕ
 withFocus s f = withHead s 3 f
+
+abbrev pub withTarget : List ℕ → ℕ → List ℕ
+withTarget s a = withHead s 4 a
+
+abbrev pub withHanded : List ℕ → ℕ → List ℕ
+withHanded s c = withHead s 5 c
 
 -- ---- a bare cell: its state, then its value in four bytes
 abbrev pub blankCell : List ℕ

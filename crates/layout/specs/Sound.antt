@@ -7,11 +7,12 @@ use mathlib.Core.List.{List}
 use lib.ListN.{length}
 use Rattle.rules.specs.Basic.{on}
 use Rattle.rules.specs.Tree.{path}
-use Rattle.layout.specs.Limits.{maxVars, maxNodes, sizeOf}
+use Rattle.rules.specs.Leg.{Walking}
+use Rattle.layout.specs.Limits.{maxVars, maxNodes, noneN, sizeOf}
 use Rattle.layout.specs.Records.{vars, room, made, focus, blankCell, ProperCell, bareC, kindN, parentN, varN, postN, storedN, depthN, topNode, blankNode}
 use Rattle.layout.specs.Kinds.{IsBinding, IsWind, IsNode, isIn}
-use Rattle.layout.specs.Fields.{Fields, fieldsOf, varsF, roomF, madeF, focusF}
-use Rattle.layout.specs.View.{treeF}
+use Rattle.layout.specs.Fields.{Fields, fieldsOf, varsF, roomF, madeF, focusF, targetF, handedF}
+use Rattle.layout.specs.View.{treeF, walkF}
 
 -- the answer of a test: yes with a proof, or no with a refutation
 abbrev pub Says : Bool → Type 0 → Type 0
@@ -77,7 +78,18 @@ pub record Headed (s : List ℕ) : Type 0 where
   pub long : sizeOf (vars s) (room s) ≤ length s
   pub head : HeadOk (vars s) (room s) (made s) (focus s)
 
--- the buffer is long enough, and its fields are sound
-pub record Sound (s : List ℕ) : Type 0 where
+-- the buffer is long enough, and its fields are sound: every clause but the one on walks
+pub record Whole (s : List ℕ) : Type 0 where
   pub long : sizeOf (vars s) (room s) ≤ length s
   pub fields : SoundF (fieldsOf s)
+
+-- document 02, W5: a target is made; a wind whose entering was handed over stands there only during a walk, and is the child of the
+-- focus on the target's path
+pub record WalkOk (f : Fields) : Type 0 where
+  pub walking : Walking (treeF (f .node)) (focusF f) (walkF f)
+  pub only : targetF f ≡ noneN → handedF f ≡ noneN
+
+-- all clauses
+pub record Sound (s : List ℕ) : Type 0 where
+  pub whole : Whole s
+  pub walk : WalkOk (fieldsOf s)

@@ -1,7 +1,7 @@
 -- Fields read as a store of the rules (document 01, "The bytes of a store"): what each node is, its parent, its mode, the
 -- cells and the stored cells. The rank is the depth.
 -- Assumes nothing: these are definitions.
-use mathlib.Core.Bool.{Bool, true, false, cond}
+use mathlib.Core.Bool.{cond}
 use mathlib.Core.Option.{Option, none, some}
 use Prim.Native.Nat.{ℕ}
 use mathlib.Core.List.{List}
@@ -12,9 +12,11 @@ use mir.Val.{toZ}
 use Rattle.rules.specs.Tree.{What, blank, top, binding, wind, Tree}
 use Rattle.rules.specs.Values.{Cell, unbound, value}
 use Rattle.rules.specs.Store.{Store}
+use Rattle.rules.specs.World.{Walk}
+use Rattle.layout.specs.Limits.{noneN}
 use Rattle.layout.specs.Records.{bitsC, bareC, kindN, parentN, varN, postN, storedN, depthN}
 use Rattle.layout.specs.Kinds.{byKind, isIn}
-use Rattle.layout.specs.Fields.{Fields, fieldsOf, focusF}
+use Rattle.layout.specs.Fields.{Fields, fieldsOf, focusF, targetF, handedF}
 
 -- a bare cell: state 0 is unbound, else the value in two's complement
 unfoldable pub asCell : List ℕ → Cell
@@ -39,3 +41,17 @@ viewF f = record {
 
 unfoldable pub view : List ℕ → Store
 view s = viewF (fieldsOf s)
+
+-- the walk under way (document 02, W5): a number in the header, or none
+abbrev pub orNone : ℕ → Option ℕ
+orNone n = cond (eqb n noneN) none (some n)
+
+abbrev pub walkTo : Option ℕ → Option ℕ → Option Walk
+walkTo none c = none
+walkTo (some a) c = some (record { target = a; handed = c })
+
+unfoldable pub walkF : Fields → Option Walk
+walkF f = walkTo (orNone (targetF f)) (orNone (handedF f))
+
+unfoldable pub walkOf : List ℕ → Option Walk
+walkOf s = walkF (fieldsOf s)

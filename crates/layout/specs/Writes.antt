@@ -4,7 +4,7 @@ use Prim.Native.Nat.{ℕ, zero, suc, _+_, _-_, _*_, _<_}
 use mathlib.Core.List.{List, [], _++_}
 use lib.ListN.{replicate}
 use lib.IntN.{ℤ}
-use Rattle.layout.specs.Limits.{nodeSize}
+use Rattle.layout.specs.Limits.{nodeSize, noneN}
 use Rattle.layout.specs.Records.{headB, vars, room, made, focus, withFocus, withMade, blankCell, valueC, cellOf, withCell, bareC, putC, wholeC, topC, nodeOf, withNode, kindN, parentN, varN, storedN, depthN, turnN, swapN, nodeB, topNode}
 use Rattle.layout.specs.Kinds.{byKind, leftKind, enteredKind, IsBinding, IsNode}
 use Rattle.layout.specs.Fields.{nodes, Fit}
@@ -67,4 +67,4 @@ unfoldable pub nodesB : ℕ → List ℕ
 nodesB k = topNode ++ replicate (k - nodeSize) 0
 
 unfoldable pub openB : ℕ → ℕ → List ℕ → List ℕ
-openB v n tops = headB v n 1 0 ++ (cellsB v tops ++ (topNode ++ replicate (nodeSize * (n - 1)) 0))
+openB v n tops = headB v n 1 0 noneN noneN ++ (cellsB v tops ++ (topNode ++ replicate (nodeSize * (n - 1)) 0))

@@ -2,7 +2,9 @@
 pub mod Laws
 pub mod RecordLaws
 pub mod PlaceLaws
+pub mod ByteLaws
 pub mod SoundLaws
+pub mod StrideLaws
 pub mod MoveLaws
 pub mod Reading
 pub mod OpenLaws
@@ -14,3 +16,7 @@ pub mod RouteLaws
 pub mod EventLaws
 pub mod TellLaws
 pub mod FarLaws
+pub mod HandedLaws
+pub mod StopLaws
+pub mod LegLaws
+pub mod StepLaws

@@ -19,7 +19,7 @@ impl Store {
     pub const NODES: usize = 2_048;
 
     // Bytes of the header, of a cell of the store, of a bare cell, of a node, of a trace event.
-    pub const HEADER: usize = 8;
+    pub const HEADER: usize = 12;
 
     pub const CELL: usize = 5;
 
@@ -28,6 +28,9 @@ impl Store {
     pub const NODE: usize = 14;
 
     pub const EVENT: usize = 5;
+
+    // In the header, for no target and for no wind.
+    pub const NONE: usize = 65_535;
 }
 
 // The constants as one value.
@@ -39,6 +42,7 @@ pub struct Sizes {
     pub bare: usize,
     pub node: usize,
     pub event: usize,
+    pub none: usize,
 }
 
 // The code's constants are the definitions' numbers.
@@ -53,6 +57,7 @@ pub fn limits() -> Sizes
         bare: Store::BARE,
         node: Store::NODE,
         event: Store::EVENT,
+        none: Store::NONE,
     }
 }
 

@@ -6,9 +6,7 @@ use native.Mathlib.Omega.{arith}
 use lib.ListN.{length, take, drop, length-append}
 use lib.Seq.{take-at, take-all, length-take-le}
 use Rattle.layout.specs.Limits.{bareSize}
-use Rattle.layout.specs.laws.RecordLaws.{value-length}
 use Rattle.text.specs.declared.line.Cell.{Cell}
-use Rattle.text.specs.declared.line.Cell.the-variants.{Value, Unbound}
 use Rattle.text.specs.declared.line.Line.{Line}
 use Rattle.text.specs.declared.line.Line.the-variants.{Top}
 use Rattle.text.specs.declared.line.Next.{Next}
@@ -16,15 +14,10 @@ use Rattle.text.specs.declared.line.Next.the-variants as Next
 use Rattle.text.specs.Finds.{Finds}
 use Rattle.text.specs.Lines.{Leads, nextOf}
 use Rattle.print.specs.Writing.{Wrote}
-use Rattle.card.specs.Tops.{cellB}
+use Rattle.card.specs.Tops.{cellB, cell-long}
 use Rattle.play.specs.Output.{topsB}
 use Rattle.play.specs.Steps.{Ahead}
 use Rattle.play.proofs.Lines.{is-missing, is-found}
-
-pub cell-long : (c : Cell) → length (cellB c) ≡ bareSize
-unfolding cellB
-cell-long (Value v) = value-length v
-cell-long Unbound = refl
 
 tops-more : (cs : List Cell) (c : Cell) → topsB (cs ++ (c ∷ [])) ≡ topsB cs ++ cellB c
 unfolding topsB

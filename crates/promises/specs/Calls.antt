@@ -1,7 +1,7 @@
 -- The calls on a store under one name, so that what holds of all of them is said once: each call's promise, its table, and
 -- what it says of a call that is done. Open stands alone. From document 01, "What each call does". Assumes nothing.
 use mathlib.Core.Path.{_≡_, refl, sym, ap, _∙_}
-use mathlib.Core.Logic.{inl, inr}
+use mathlib.Core.Logic.{_⊎_, inl, inr}
 use mathlib.Core.Bool.{true, false}
 use Prim.Native.Nat.{ℕ, zero, suc, _≤_}
 use native.Mathlib.Omega.{arith}
@@ -12,21 +12,22 @@ use borrow.Author.Tests.{eqb-true, eqb-false}
 use Rattle.rules.specs.Basic.{clash}
 use Rattle.rules.specs.Tree.{binds}
 use Rattle.rules.specs.Moves.{Event, windEvent}
-use Rattle.rules.specs.Act.{Ask, Child, Goal, Call, Size, Shown, shown, whatOf, ownOf, eventsOf, Ground, grounds, rowOf, rows}
+use Rattle.rules.specs.Act.{Ask, Child, Goal, Stride, Call, Free, Barred, Needing, steps, drops, Size, Shown, shown, whatOf, ownOf, eventsOf, Ground, grounds, rowOf, rows}
 use Rattle.rules.specs.Effects.{NewNode}
-use Rattle.rules.specs.World.{alone}
 use Rattle.rules.specs.Refusals as refusals
 use Rattle.rules.specs.Refusals.{setup, damaged}
-use Rattle.rules.specs.Demands.{rows-rise}
-use Rattle.layout.specs.Records.{focus}
+use Rattle.rules.specs.Demands.{ground-known}
+use Rattle.rules.specs.Grounds.{each-call, free-rise, RisesBehind, barred-first}
+use Rattle.layout.specs.Limits.{noneN}
+use Rattle.layout.specs.Records.{focus, target}
 use Rattle.layout.specs.Sound.{Sound}
-use Rattle.layout.specs.Becomes.{Kept}
-use Rattle.layout.specs.laws.WalkLaws.{kept-self}
+use Rattle.layout.specs.Becomes.{Sized, Kept}
+use Rattle.layout.specs.laws.WalkLaws.{sized-self}
 use Rattle.layout.specs.Made.{nextOf}
 use Rattle.layout.specs.Events.{eventsB, told, eventsTo}
 use Rattle.promises.specs.Answers.{Numbers, refusal}
-use Rattle.promises.specs.Tables.{Row, row, First, RisingFrom, Rising, rising-more, Lowest, first-lowest}
-use Rattle.promises.specs.Promises.{meaning, at, Answers, damagedRow, variableRow, environmentRow, valueRow, fullRow, roomRow, topRow, Told, Shows, LookPromise, PeekPromise, HerePromise, FarDone, FarPromise, SetDone, SetPromise, BindDone, BindPromise, WindDone, WindPromise, SwitchDone, parentAt, GotoPromise, BackPromise, Openable, Opened, OpenPromise}
+use Rattle.promises.specs.Tables.{Row, row, First, RisingFrom, Rising, rising-more, Lowest, lowest-beside, Above, first-lowest}
+use Rattle.promises.specs.Promises.{meaning, world, at, Answers, damagedRow, variableRow, environmentRow, valueRow, fullRow, roomRow, topRow, walkingRow, notWalkingRow, Told, Shows, LookPromise, PeekPromise, HerePromise, FarDone, FarPromise, SetDone, SetPromise, BindDone, BindPromise, WindDone, WindPromise, SwitchDone, parentAt, GotoPromise, BackPromise, StrideDone, BeginPromise, StepPromise, DropPromise, Openable, Opened, OpenPromise}
 use Rattle.promises.specs.Stable.{sound-stable}
 
 -- what is promised of the call c from the store s and the trace t to s′ and t′, with the numbers n; where no trace is lent,
@@ -41,6 +42,9 @@ Promised (Call.make (Child.wind p q)) s t s′ t′ n = WindPromise s t p q s′
 Promised (Call.set x v) s t s′ t′ n = SetPromise s x v s′ n × (t′ ≡ t)
 Promised (Call.switch (Goal.goto a)) s t s′ t′ n = GotoPromise s t a s′ t′ n
 Promised (Call.switch Goal.back) s t s′ t′ n = BackPromise s t s′ t′ n
+Promised (Call.stride (Stride.begin a)) s t s′ t′ n = BeginPromise s a s′ n × (t′ ≡ t)
+Promised (Call.stride Stride.step) s t s′ t′ n = StepPromise s s′ n × (t′ ≡ t)
+Promised (Call.stride Stride.drop) s t s′ t′ n = DropPromise s s′ n × (t′ ≡ t)
 
 -- ---- the same, as one statement: the rows below Damaged, and what is done
 -- the place that a switch goes to
@@ -48,12 +52,13 @@ abbrev pub goalAt : Goal → List ℕ → ℕ
 goalAt (Goal.goto a) s = a
 goalAt Goal.back s = parentAt s
 
--- the events of a call that is done
+-- the events that a call that is done writes to the trace: a step's is in its answer
 abbrev pub eventsIn : Call → List ℕ → List Event
 eventsIn (Call.ask q) s = []
 eventsIn (Call.make k) s = windEvent true (whatOf k) (focus s)
 eventsIn (Call.set x v) s = []
 eventsIn (Call.switch g) s = eventsTo s (goalAt g s)
+eventsIn (Call.stride k) s = []
 
 -- the row of a ground, for a call with these events
 abbrev pub rowAt : List ℕ → List ℕ → List Event → Ground → Row
@@ -64,6 +69,8 @@ rowAt s t es (Ground.valuelessAt a x) = valueRow s a x
 rowAt s t es Ground.noSpace = fullRow s
 rowAt s t es Ground.noRoom = roomRow t es
 rowAt s t es Ground.noParent = topRow s
+rowAt s t es Ground.midWalk = walkingRow s
+rowAt s t es Ground.noWalk = notWalkingRow s
 
 abbrev pub table : Call → List ℕ → List ℕ → List Row
 table c s t = map (rowAt s t (eventsIn c s)) (grounds c)
@@ -90,6 +97,7 @@ Done (Call.ask q) s t s′ t′ n = AskDone q s n × (s′ ≡ s) × (t′ ≡ t
 Done (Call.make k) s t s′ t′ n = MakeDone k s t s′ t′ n
 Done (Call.set x v) s t s′ t′ n = SetDone s x v s′ n × (t′ ≡ t)
 Done (Call.switch g) s t s′ t′ n = SwitchDone s t (goalAt g s) s′ t′ n
+Done (Call.stride k) s t s′ t′ n = StrideDone k s s′ n × (t′ ≡ t)
 
 abbrev pub Called : Call → List ℕ → List ℕ → List ℕ → List ℕ → Numbers → Type 0
 Called c s t s′ t′ n = Answers (damagedRow s ∷ table c s t) n ((s′ ≡ s) × (t′ ≡ t)) (Done c s t s′ t′ n)
@@ -134,6 +142,9 @@ called (Call.make (Child.wind a b)) s t s′ t′ n p = answers-map (λ q. q) (w
 called (Call.set x v) s t s′ t′ n (p, e) = answers-map (λ q. (q, e)) (λ d. (d, e)) (p .answers)
 called (Call.switch (Goal.goto a)) s t s′ t′ n p = p .answers
 called (Call.switch Goal.back) s t s′ t′ n p = p .answers
+called (Call.stride (Stride.begin a)) s t s′ t′ n (p, e) = answers-map (λ q. (q, e)) (λ d. (d, e)) (p .answers)
+called (Call.stride Stride.step) s t s′ t′ n (p, e) = answers-map (λ q. (q, e)) (λ d. (d, e)) (p .answers)
+called (Call.stride Stride.drop) s t s′ t′ n (p, e) = answers-map (λ q. (q, e)) (λ d. (d, e)) (p .answers)
 
 -- ---- a number is 0, or a refusal's
 pub data Code (n : Numbers) : Type 0 where
@@ -157,27 +168,66 @@ module _ (s t : List ℕ) (es : List Event) (z : Size) (room : ℕ) (es′ : Lis
   number-same Ground.noSpace = refl
   number-same Ground.noRoom = refl
   number-same Ground.noParent = refl
+  number-same Ground.midWalk = refl
+  number-same Ground.noWalk = refl
 
   rises-same : (k : ℕ) (gs : List Ground) → refusals.RisingFrom k (map (rowOf z room es′ d) gs) → RisingFrom k (map (rowAt s t es) gs)
   rises-same k [] h = tt
   rises-same k (g ∷ gs) h = rw (number-same g) (h .0, rises-same (rowOf z room es′ d g .number) gs (h .1))
 
-pub table-rises : (c : Call) (s t : List ℕ) → RisingFrom (suc damaged) (table c s t)
-unfolding rows
-table-rises c s t = rises-same s t (eventsIn c s) z 0 (eventsOf c d) d (suc damaged) (grounds c) (rows-rise z 0 c d)
+  above-same : (gs : List Ground) → Above damaged (map (rowAt s t es) gs)
+  above-same [] = tt
+  above-same (g ∷ gs) = (rw (number-same g) (ground-known z room es′ d g .1), above-same gs)
+
+module _ (c : Call) (s t : List ℕ) where
+  -- any will do: the numbers are the same
+  z : Size
+  z = record { vars = 0; nodes = 0 }
+
+  d : Shown
+  d = shown (world s)
+
+  pub table-above : Above damaged (table c s t)
+  table-above = above-same s t (eventsIn c s) z 0 [] d (grounds c)
+
+  free-lowest : Free c → (n : ℕ) → First (damagedRow s ∷ table c s t) n → Lowest (damagedRow s ∷ table c s t) n
+  unfolding rows
+  free-lowest f n h = first-lowest (damagedRow s ∷ table c s t) (omega arith, rising-more damaged (table c s t) rise) n h
+    where
+      rise : RisingFrom (suc damaged) (table c s t)
+      rise = rises-same s t (eventsIn c s) z 0 (eventsOf c d) d (suc damaged) (grounds c) (free-rise z 0 c d f)
+
+  barred-lowest : Barred c → target s ≡ noneN → (n : ℕ) → First (damagedRow s ∷ table c s t) n → Lowest (damagedRow s ∷ table c s t) n
+  barred-lowest b out n h = go (barred-first z 0 c d b)
+    where
+      go : RisesBehind z 0 c d → Lowest (damagedRow s ∷ table c s t) n
+      go (gs, is, up) = rw split (lowest-beside (damagedRow s) (walkingRow s) own n (λ w. w out) (first-lowest (damagedRow s ∷ own) rises n (behind (rw split at h))))
+        where
+          own : List Row
+          own = map (rowAt s t (eventsIn c s)) gs
+
+          split : table c s t ≡ walkingRow s ∷ own
+          split = ap (map (rowAt s t (eventsIn c s))) is
+
+          rises : Rising (damagedRow s ∷ own)
+          rises = (omega arith, rising-more damaged own (rises-same s t (eventsIn c s) z 0 (eventsOf c d) d (suc damaged) gs up))
+
+          behind : First (damagedRow s ∷ walkingRow s ∷ own) n → First (damagedRow s ∷ own) n
+          behind (inl a) = inl a
+          behind (inr (sound, inl (e, w))) = absurd (w out)
+          behind (inr (sound, inr (off, f))) = inr (sound, f)
+
+-- document 01's "the lowest number that applies": of a call that a walk leaves free always, of every call outside a walk
+pub called-lowest : (c : Call) (s t s′ t′ : List ℕ) (n : Numbers) → Called c s t s′ t′ n → Free c ⊎ (target s ≡ noneN)
+    → Lowest (damagedRow s ∷ table c s t) (n .code)
+called-lowest c s t s′ t′ n p (inl f) = free-lowest c s t f (n .code) (p .first)
+called-lowest c s t s′ t′ n p (inr out) = go c (p .first) (each-call c)
   where
-    -- any will do: the numbers are the same
-    z : Size
-    z = record { vars = 0; nodes = 0 }
-
-    d : Shown
-    d = shown (alone (meaning s))
-
-pub conditions-rise : (c : Call) (s t : List ℕ) → Rising (damagedRow s ∷ table c s t)
-conditions-rise c s t = (omega arith, rising-more damaged (table c s t) (table-rises c s t))
-
-pub called-lowest : (c : Call) (s t s′ t′ : List ℕ) (n : Numbers) → Called c s t s′ t′ n → Lowest (damagedRow s ∷ table c s t) (n .code)
-called-lowest c s t s′ t′ n p = first-lowest (damagedRow s ∷ table c s t) (conditions-rise c s t) (n .code) (p .first)
+    go : (c : Call) → First (damagedRow s ∷ table c s t) (n .code) → Free c ⊎ (Barred c ⊎ Needing c) → Lowest (damagedRow s ∷ table c s t) (n .code)
+    go c h (inl f) = free-lowest c s t f (n .code) h
+    go c h (inr (inl b)) = barred-lowest c s t b out (n .code) h
+    go (Call.stride Stride.step) h (inr (inr steps)) = first-lowest _ (omega arith, (omega arith, tt)) (n .code) h
+    go (Call.stride Stride.drop) h (inr (inr drops)) = first-lowest _ (omega arith, (omega arith, tt)) (n .code) h
 
 module _ {s : List ℕ} {rows : List Row} {n : Numbers} {Same Done : Type 0} (a : Answers (damagedRow s ∷ rows) n Same Done) where
   -- where the call is done the store was sound
@@ -197,11 +247,12 @@ module _ {s : List ℕ} {rows : List Row} {n : Numbers} {Same Done : Type 0} (a 
       go (inr (never, f)) = f
 
 -- ---- what a done call leaves is a sound store of the same size, and no byte past the size changed
-pub done-leaves : (c : Call) (s t s′ t′ : List ℕ) (n : Numbers) → Sound s → Done c s t s′ t′ n → Sound s′ × Kept s s′
-done-leaves (Call.ask q) s t s′ t′ n ok (d, e, f) = rw e (ok, kept-self s)
-done-leaves (Call.make k) s t s′ t′ n ok d = (d .sound, d .kept)
-done-leaves (Call.set x v) s t s′ t′ n ok (d, e) = (d .sound, d .kept)
-done-leaves (Call.switch g) s t s′ t′ n ok d = (d .sound, d .kept)
+pub done-leaves : (c : Call) (s t s′ t′ : List ℕ) (n : Numbers) → Sound s → Done c s t s′ t′ n → Sound s′ × Sized s s′
+done-leaves (Call.ask q) s t s′ t′ n ok (d, e, f) = rw e (ok, sized-self s)
+done-leaves (Call.make k) s t s′ t′ n ok d = (d .sound, d .kept .size)
+done-leaves (Call.set x v) s t s′ t′ n ok (d, e) = (d .sound, d .kept .size)
+done-leaves (Call.switch g) s t s′ t′ n ok d = (d .sound, d .kept .size)
+done-leaves (Call.stride k) s t s′ t′ n ok (d, e) = (d .sound, d .size)
 
 -- ---- open: done where its arguments are good, else refused
 module _ (v k : ℕ) (tops s s′ : List ℕ) (n : Numbers) (p : OpenPromise v k tops s s′ n) where

@@ -8,32 +8,39 @@ use mathlib.Core.Option.{Option, none, some}
 use Prim.Native.Nat.{ℕ, _*_, _/_, _≤_, _<_}
 use mathlib.Core.List.{List, [], _∷_}
 use lib.IntN.{ℤ, pos}
-use lib.ListN.{length, drop}
+use lib.ListN as lists
+use lib.ListN.{length}
 use Rattle.rules.specs.Basic.{orTop}
 use Rattle.rules.specs.Tree.{What, binding, wind}
 use Rattle.rules.specs.Values.{Cell, unbound, value}
 use Rattle.rules.specs.Store.{Deep, home}
 use Rattle.rules.specs.Far.{Between}
-use Rattle.rules.specs.Moves.{Move, Event}
+use Rattle.rules.specs.Moves.{Move, Moves, Event}
+use Rattle.rules.specs.World.{World}
+use Rattle.rules.specs.Act.{Stride, begin, step, drop, shown, legOf, walkBy}
 use Rattle.rules.specs.Calls.{valueAt, decidedBy}
-use Rattle.rules.specs.Refusals.{setup, damaged, noVariable, noEnvironment, noValue, full, traceRoom, atTop}
+use Rattle.rules.specs.Refusals.{setup, damaged, noVariable, noEnvironment, noValue, full, traceRoom, atTop, walking, notWalking}
 use Rattle.rules.specs.Effects.{NewNode, SetTo}
 use Rattle.rules.specs.Demands.{Switched}
-use Rattle.layout.specs.Limits.{eventSize, sizeOf}
-use Rattle.layout.specs.Records.{vars, room, focus, ProperCell, topC}
-use Rattle.layout.specs.View.{asCell, view}
+use Rattle.layout.specs.Limits.{noneN, eventSize, sizeOf}
+use Rattle.layout.specs.Records.{vars, room, focus, target, ProperCell, topC}
+use Rattle.layout.specs.View.{asCell, view, walkOf}
 use Rattle.layout.specs.Sound.{Sound}
 use Rattle.layout.specs.Made.{IsMade, nextOf, IsFull}
-use Rattle.layout.specs.Becomes.{Kept}
+use Rattle.layout.specs.Becomes.{Sized, Kept}
 use Rattle.layout.specs.Opening.{OpenFits}
 use Rattle.layout.specs.Events.{told}
 use Rattle.layout.specs.Events.{eventsTo}
-use Rattle.promises.specs.Answers.{Numbers, refusal, done, seen}
+use Rattle.promises.specs.Answers.{Numbers, refusal, done, seen, handing}
 use Rattle.promises.specs.Tables.{Row, row, First}
 
 -- what a store means: the deep store of TR397's Figure 2, with the top values
 unfoldable pub meaning : List ℕ → Deep
 meaning s = home (view s)
+
+-- .. and the walk that is under way, if any
+unfoldable pub world : List ℕ → World Deep
+world s = record { store = meaning s; walk = walkOf s }
 
 -- the value of x at a
 unfoldable pub at : List ℕ → ℕ → ℕ → Cell
@@ -85,6 +92,13 @@ roomRow t es = row traceRoom (roomFor t < length es)
 abbrev pub topRow : List ℕ → Row
 topRow s = row atTop (focus s ≡ 0)
 
+-- a walk is under way; none is (document 02, W5)
+abbrev pub walkingRow : List ℕ → Row
+walkingRow s = row walking (target s ≢ noneN)
+
+abbrev pub notWalkingRow : List ℕ → Row
+notWalkingRow s = row notWalking (target s ≡ noneN)
+
 -- ---- open
 pub record Openable (v n : ℕ) (tops s : List ℕ) : Type 0 where
   pub fits : OpenFits v n tops
@@ -99,9 +113,10 @@ pub record Opened (v n : ℕ) (tops s s′ : List ℕ) (out : Numbers) : Type 0 
   pub nodes : room s′ ≡ n
   pub only-top : (a : ℕ) → IsMade s′ a → a ≡ 0
   pub focus : focus s′ ≡ 0
+  pub walk : walkOf s′ ≡ none
   pub values : (x : ℕ) → x < v → at s′ 0 x ≡ asCell (topC tops x)
   pub long : length s′ ≡ length s
-  pub past : drop (sizeOf v n) s′ ≡ drop (sizeOf v n) s
+  pub past : lists.drop (sizeOf v n) s′ ≡ lists.drop (sizeOf v n) s
 
 pub record OpenPromise (v n : ℕ) (tops s s′ : List ℕ) (out : Numbers) : Type 0 where
   pub answers : Answers (row setup (Openable v n tops s → ⊥) ∷ []) out (s′ ≡ s) (Opened v n tops s s′ out)
@@ -147,7 +162,7 @@ pub record BindDone (s : List ℕ) (x : ℕ) (v : ℤ) (s′ : List ℕ) (n : Nu
   pub rest : (y : ℕ) → y ≢ x → at s′ (nextOf s) y ≡ at s (focus s) y
 
 pub record BindPromise (s : List ℕ) (x : ℕ) (v : ℤ) (s′ : List ℕ) (n : Numbers) : Type 0 where
-  pub answers : Answers (damagedRow s ∷ variableRow s x ∷ fullRow s ∷ []) n (s′ ≡ s) (BindDone s x v s′ n)
+  pub answers : Answers (damagedRow s ∷ walkingRow s ∷ variableRow s x ∷ fullRow s ∷ []) n (s′ ≡ s) (BindDone s x v s′ n)
 
 -- one trace event, entering p at the focus
 abbrev pub entering : List ℕ → ℕ → List Event
@@ -162,7 +177,7 @@ pub record WindDone (s t : List ℕ) (p q : ℕ) (s′ t′ : List ℕ) (n : Num
   pub trace : t′ ≡ told (entering s p) t
 
 pub record WindPromise (s t : List ℕ) (p q : ℕ) (s′ t′ : List ℕ) (n : Numbers) : Type 0 where
-  pub answers : Answers (damagedRow s ∷ fullRow s ∷ roomRow t (entering s p) ∷ []) n ((s′ ≡ s) × (t′ ≡ t)) (WindDone s t p q s′ t′ n)
+  pub answers : Answers (damagedRow s ∷ walkingRow s ∷ fullRow s ∷ roomRow t (entering s p) ∷ []) n ((s′ ≡ s) × (t′ ≡ t)) (WindDone s t p q s′ t′ n)
 
 -- ---- goto and back: demand 3, by a list of moves from the store at entry to the store at exit
 pub record SwitchDone (s t : List ℕ) (a : ℕ) (s′ t′ : List ℕ) (n : Numbers) : Type 0 where
@@ -183,7 +198,25 @@ unfoldable pub parentAt : List ℕ → ℕ
 parentAt s = orTop (view s .tree .up (focus s))
 
 pub record GotoPromise (s t : List ℕ) (a : ℕ) (s′ t′ : List ℕ) (n : Numbers) : Type 0 where
-  pub answers : Switches s t a s′ t′ (damagedRow s ∷ environmentRow s a ∷ roomRow t (eventsTo s a) ∷ []) n
+  pub answers : Switches s t a s′ t′ (damagedRow s ∷ walkingRow s ∷ environmentRow s a ∷ roomRow t (eventsTo s a) ∷ []) n
 
 pub record BackPromise (s t s′ t′ : List ℕ) (n : Numbers) : Type 0 where
-  pub answers : Switches s t (parentAt s) s′ t′ (damagedRow s ∷ roomRow t (eventsTo s (parentAt s)) ∷ topRow s ∷ []) n
+  pub answers : Switches s t (parentAt s) s′ t′ (damagedRow s ∷ walkingRow s ∷ roomRow t (eventsTo s (parentAt s)) ∷ topRow s ∷ []) n
+
+-- ---- begin, step, drop (document 02, W5): a step goes the walk's leg up to its next event, begin and drop make no move; the focus
+-- is answered, and the walk is as the stride leaves it
+pub record StrideDone (k : Stride) (s s′ : List ℕ) (n : Numbers) : Type 0 where
+  pub answer : n ≡ handing (focus s′) (length (legOf k (shown (world s)) .moves)) (legOf k (shown (world s)) .events)
+  pub sound : Sound s′
+  pub size : Sized s s′
+  pub moved : Moves (view s) (legOf k (shown (world s)) .moves) (view s′)
+  pub walk : walkOf s′ ≡ walkBy k (shown (world s))
+
+pub record BeginPromise (s : List ℕ) (a : ℕ) (s′ : List ℕ) (n : Numbers) : Type 0 where
+  pub answers : Answers (damagedRow s ∷ walkingRow s ∷ environmentRow s a ∷ []) n (s′ ≡ s) (StrideDone (begin a) s s′ n)
+
+pub record StepPromise (s s′ : List ℕ) (n : Numbers) : Type 0 where
+  pub answers : Answers (damagedRow s ∷ notWalkingRow s ∷ []) n (s′ ≡ s) (StrideDone step s s′ n)
+
+pub record DropPromise (s s′ : List ℕ) (n : Numbers) : Type 0 where
+  pub answers : Answers (damagedRow s ∷ notWalkingRow s ∷ []) n (s′ ≡ s) (StrideDone drop s s′ n)

@@ -3,12 +3,18 @@
 use mathlib.Core.Path.{_≡_}
 use mathlib.Core.Logic.{_⊎_, inl, inr, ⊎-elim}
 use mathlib.Core.Bool.{Bool-discrete}
+use mathlib.Core.Option.{Option, none, some, discrete as option-discrete}
 use Prim.Native.Nat.{ℕ, _≤_}
 use native.Mathlib.Decide.{ℕ-discrete, decLe}
 use mathlib.Core.List.{List, List-discrete}
 use lib.ListN.{getD}
 use Rattle.layout.specs.Records.{ProperCell, blankCell, blankNode, kindN}
-use Rattle.layout.specs.Sound.{NodeOk, Sound}
+use Rattle.rules.specs.Tree.{Tree}
+use Rattle.rules.specs.World.{Walk}
+use Rattle.rules.specs.Leg.{Handed, Walking}
+use Rattle.layout.specs.Fields.{fieldsOf, focusF}
+use Rattle.layout.specs.View.{treeF, walkF}
+use Rattle.layout.specs.Sound.{NodeOk, Whole, Sound}
 
 between : (lo k hi : ℕ) → Dec ((lo ≤ k) × (k ≤ hi))
 between lo k hi = go (decLe lo k) (decLe k hi)
@@ -59,8 +65,8 @@ module _ {P : Type 0} (twice : (P → ⊥) → ⊥) where
       go (yes e) = inl e
       go (no e) = inr (node-ok (λ q. ⊎-elim (λ b. absurd (e b)) (λ o. o) (f q)))
 
-pub sound-stable : (s : List ℕ) → ((Sound s → ⊥) → ⊥) → Sound s
-sound-stable s twice = record {
+whole-stable : (s : List ℕ) → ((Whole s → ⊥) → ⊥) → Whole s
+whole-stable s twice = record {
   long = at-most twice (λ p. p .long);
   fields = record {
     shape = record {
@@ -79,5 +85,24 @@ sound-stable s twice = record {
       no-gap = λ n l h. (λ e. at-most twice (λ p. p .fields .shape .no-gap n l h .0 e), λ m. lists twice (λ p. p .fields .shape .no-gap n l h .1 m));
     };
     ins = λ n. tested twice (Bool-discrete _ _) (λ p. p .fields .ins n);
+  };
+}
+
+handed-stable : (t : Tree) (f a : ℕ) (o : Option ℕ) → ((Handed t f a o → ⊥) → ⊥) → Handed t f a o
+handed-stable t f a none twice = tt
+handed-stable t f a (some c) twice =
+    (tested twice (option-discrete ℕ-discrete _ _) (λ p. p .0), tested twice (Bool-discrete _ _) (λ p. p .1), numbers twice (λ p. p .2))
+
+walking-stable : (t : Tree) (f : ℕ) (o : Option Walk) → ((Walking t f o → ⊥) → ⊥) → Walking t f o
+walking-stable t f none twice = tt
+walking-stable t f (some k) twice =
+    (λ e. twice (λ p. p .0 e), handed-stable t f (k .target) (k .handed) (λ h. twice (λ p. h (p .1))))
+
+pub sound-stable : (s : List ℕ) → ((Sound s → ⊥) → ⊥) → Sound s
+sound-stable s twice = record {
+  whole = whole-stable s (λ k. twice (λ p. k (p .whole)));
+  walk = record {
+    walking = walking-stable (treeF (fieldsOf s .node)) (focusF (fieldsOf s)) (walkF (fieldsOf s)) (λ k. twice (λ p. k (p .walk .walking)));
+    only = λ e. numbers twice (λ p. p .walk .only e);
   };
 }

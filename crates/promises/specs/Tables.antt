@@ -1,6 +1,6 @@
 -- "Exactly when", stated once for every call: a table of numbers and the conditions under which they apply, in the order of
--- precedence. The first row that applies gives the number; where a table's numbers rise, as the store's do, that is "the lowest number
--- that applies" (`first-lowest`). From document 01, "The numbers a call can give back". Assumes nothing.
+-- precedence. The first row that applies gives the number; where a table's numbers rise, as the store's do outside a walk, that is
+-- "the lowest number that applies" (`first-lowest`). From document 01, "The numbers a call can give back". Assumes nothing.
 use mathlib.Core.Path.{_≡_, sym, _∙_}
 use mathlib.Core.Logic.{_⊎_, inl, inr}
 use Prim.Native.Nat.{ℕ, suc, _≤_}
@@ -72,6 +72,30 @@ first-least k (r ∷ rs) up c (inl (e, w)) n (inr a) = (omega (arith, up .0), om
 first-least k (r ∷ rs) up c (inr (never, h)) n (inl (f, v)) = absurd (never v)
 first-least k (r ∷ rs) up c (inr (never, h)) n (inr a) =
     let (low, least) = first-least (r .number) rs (up .1) c h n a in (omega (arith, up .0), least)
+
+-- a row that does not apply may stand behind the first
+pub lowest-beside : (d w : Row) (rs : List Row) (c : ℕ) → (w .when → ⊥) → Lowest (d ∷ rs) c → Lowest (d ∷ w ∷ rs) c
+lowest-beside d w rs c off l = record { exact = more (l .exact); least = λ n a. l .least n (fewer n a) }
+  where
+    more : (c ≡ 0) ⊎ Applies (d ∷ rs) c → (c ≡ 0) ⊎ Applies (d ∷ w ∷ rs) c
+    more (inl e) = inl e
+    more (inr (inl a)) = inr (inl a)
+    more (inr (inr a)) = inr (inr (inr a))
+
+    fewer : (n : ℕ) → Applies (d ∷ w ∷ rs) n → Applies (d ∷ rs) n
+    fewer n (inl a) = inl a
+    fewer n (inr (inl (e, a))) = absurd (off a)
+    fewer n (inr (inr a)) = inr a
+
+-- all numbers are above k
+abbrev pub Above : ℕ → List Row → Type 0
+Above k [] = Unit {0}
+Above k (r ∷ rs) = (suc k ≤ r .number) × Above k rs
+
+pub applies-above : (k : ℕ) (rs : List Row) → Above k rs → (n : ℕ) → Applies rs n → suc k ≤ n
+applies-above k [] h n a = absurd a
+applies-above k (r ∷ rs) h n (inl (e, w)) = omega (arith, h .0)
+applies-above k (r ∷ rs) h n (inr a) = applies-above k rs (h .1) n a
 
 pub first-lowest : (rs : List Row) → Rising rs → (c : ℕ) → First rs c → Lowest rs c
 first-lowest rs up c h = record { exact = first-exact rs c h; least = first-least 1 rs up c h }

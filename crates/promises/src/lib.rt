@@ -23,6 +23,16 @@ pub struct Switch {
     pub events: u16,
 }
 
+// A step of a walk: the focus, the moves, and the event that it hands over, if any (1) or none (0): 1 entering or 0 leaving, its
+// thunk.
+pub struct Step {
+    pub focus: u16,
+    pub moves: u16,
+    pub events: u16,
+    pub event: u16,
+    pub thunk: u16,
+}
+
 // Why a call is refused.
 pub enum Refusal {
     Setup,
@@ -33,6 +43,8 @@ pub enum Refusal {
     Full,
     TraceRoom,
     Top,
+    Walking,
+    NotWalking,
 }
 
 // What a call answers: a case for each kind of answer, and one for the refusals.
@@ -42,10 +54,12 @@ pub enum Answer {
     Made(New),
     Value(Seen),
     Switched(Switch),
+    Stepped(Step),
     Refused(Refusal),
 }
 
-// Document 01's numbers of an answer: the answer itself, its number, the moves, the number of events; of a value the decider.
+// Document 01's numbers of an answer: the answer itself, its number, the moves, the number of events; of a value the decider,
+// of a step the event that it hands over.
 pub struct Flat {
     pub out: i32,
     pub code: u16,
@@ -53,6 +67,8 @@ pub struct Flat {
     pub events: u16,
     pub by: u16,
     pub decided: bool,
+    pub event: u16,
+    pub thunk: u16,
 }
 
 fn number_of(r: Refusal) -> u16
@@ -67,12 +83,14 @@ fn number_of(r: Refusal) -> u16
         Refusal::Full => 6,
         Refusal::TraceRoom => 7,
         Refusal::Top => 8,
+        Refusal::Walking => 10,
+        Refusal::NotWalking => 11,
     }
 }
 
 // Done, with the number of an environment, 0 moves and 0 events or more.
 fn done(n: u16, moves: u16, events: u16) -> Flat
-    ensures { λ r. ⌜ r ≡ record { out = pos n; code = 0; moves = moves; events = events; by = 0; decided = false } ⌝ }
+    ensures { λ r. ⌜ r ≡ record { out = pos n; code = 0; moves = moves; events = events; by = 0; decided = false; event = 0; thunk = 0 } ⌝ }
 {
     Flat {
         out: n as i32,
@@ -81,12 +99,14 @@ fn done(n: u16, moves: u16, events: u16) -> Flat
         events,
         by: 0,
         decided: false,
+        event: 0,
+        thunk: 0,
     }
 }
 
 // Done, with a value and its decider.
 fn valued(v: i32, by: u16) -> Flat
-    ensures { λ r. ⌜ r ≡ record { out = v; code = 0; moves = 0; events = 0; by = by; decided = true } ⌝ }
+    ensures { λ r. ⌜ r ≡ record { out = v; code = 0; moves = 0; events = 0; by = by; decided = true; event = 0; thunk = 0 } ⌝ }
 {
     Flat {
         out: v,
@@ -95,12 +115,30 @@ fn valued(v: i32, by: u16) -> Flat
         events: 0,
         by,
         decided: true,
+        event: 0,
+        thunk: 0,
+    }
+}
+
+// A step, with what it hands over.
+fn handing(w: Step) -> Flat
+    ensures { λ r. ⌜ r ≡ record { out = pos (w .focus); code = 0; moves = w .moves; events = w .events; by = 0; decided = false; event = w .event; thunk = w .thunk } ⌝ }
+{
+    Flat {
+        out: w.focus as i32,
+        code: 0,
+        moves: w.moves,
+        events: w.events,
+        by: 0,
+        decided: false,
+        event: w.event,
+        thunk: w.thunk,
     }
 }
 
 // A refusal answers 0 beside its number.
 fn refused(code: u16) -> Flat
-    ensures { λ r. ⌜ r ≡ record { out = pos 0; code = code; moves = 0; events = 0; by = 0; decided = false } ⌝ }
+    ensures { λ r. ⌜ r ≡ record { out = pos 0; code = code; moves = 0; events = 0; by = 0; decided = false; event = 0; thunk = 0 } ⌝ }
 {
     Flat {
         out: 0,
@@ -109,6 +147,8 @@ fn refused(code: u16) -> Flat
         events: 0,
         by: 0,
         decided: false,
+        event: 0,
+        thunk: 0,
     }
 }
 
@@ -122,6 +162,7 @@ pub fn numbers_of(a: Answer) -> Flat
         Answer::Made(m) => done(m.node, 0, m.events),
         Answer::Value(v) => valued(v.value, v.by),
         Answer::Switched(w) => done(w.focus, w.moves, w.events),
+        Answer::Stepped(w) => handing(w),
         Answer::Refused(r) => refused(number_of(r)),
     }
 }

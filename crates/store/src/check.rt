@@ -1,23 +1,31 @@
 // Whether a store is sound: document 01's sentence, clause by clause, each answered both ways. Linear in V + N.
 ghost use mathlib.Core.Path.{_≡_};
 ghost use mathlib.Core.Bool.{true, false};
+ghost use mathlib.Core.Option.{some};
 ghost use Prim.Native.Nat.{ℕ, _+_, _*_, _<_, _≤_};
 ghost use lib.ListN.{length, replicate};
 ghost use Rattle.rules.specs.Modes.{count};
+ghost use Rattle.rules.specs.Leg.{Handed};
 ghost use Rattle.layout.specs.Limits.{maxVars, bareSize, nodeSize};
-ghost use Rattle.layout.specs.Records.{made, ProperCell, topC, parentN, varN, postN, storedN, blankCell, topNode};
+ghost use Rattle.layout.specs.Records.{made, focus, ProperCell, topC, parentN, varN, postN, storedN, blankCell, topNode};
 ghost use Rattle.layout.specs.laws.CheckLaws.{modeF, Counted, Rises, AllRise};
 ghost use Rattle.layout.specs.Fields.{fieldsOf, nodes};
-ghost use Rattle.layout.specs.Sound.{Says, NodeOk, depthAbove, Headed, CellsOk, Shape, Ins, Sound};
+ghost use Rattle.layout.specs.View.{view};
+ghost use Rattle.layout.specs.Made.{IsMade};
+ghost use Rattle.layout.specs.Sound.{Says, NodeOk, depthAbove, Headed, CellsOk, Shape, Ins, Whole, WalkOk, Sound};
 ghost use Rattle.layout.specs.laws.SoundLaws.{InnersOk, BlanksOk};
+use crate::apart::lift;
 use crate::kinds::is_in;
 use crate::kinds::is_out;
+use crate::kinds::is_wind;
+use crate::made::is_made;
 use crate::records::bare_of;
 use crate::records::behind_kind;
 use crate::records::cell;
 use crate::records::depth_in;
 use crate::records::depth_of;
 use crate::records::focus_of;
+use crate::records::handed_of;
 use crate::records::kind_in;
 use crate::records::kind_of;
 use crate::records::made_of;
@@ -29,6 +37,7 @@ use crate::records::post_in;
 use crate::records::room_of;
 use crate::records::size_of;
 use crate::records::stored_of;
+use crate::records::target_of;
 use crate::records::top_cell;
 use crate::records::var_in;
 use crate::records::vars_of;
@@ -259,8 +268,9 @@ fn ins_ok(s: &[u8], all: usize) -> bool
     depth_in(p) == all
 }
 
-pub(crate) fn sound(s: &[u8]) -> bool
-    ensures { λ r. ⌜ Says r (Sound (now (s .entry))) ⌝ }
+// Every clause but the one on walks.
+fn whole(s: &[u8]) -> bool
+    ensures { λ r. ⌜ Says r (Whole (now (s .entry))) ⌝ }
 {
     if !head_ok(s) {
         return false;
@@ -270,4 +280,53 @@ pub(crate) fn sound(s: &[u8]) -> bool
         return false;
     }
     ins_ok(s, shape.ins)
+}
+
+// A wind whose entering was handed over: it is a child of the focus on the way of the target a.
+fn handed_ok(s: &[u8], a: usize, c: usize) -> bool
+    requires { ⌜ Whole (now s) × (IsMade (now s) a × (c < 65536)) ⌝ }
+    ensures { λ r. ⌜ Says r (Handed (view (now (s .entry)) .tree) (focus (now (s .entry))) a (some c)) ⌝ }
+{
+    if !is_made(s, c) {
+        return false;
+    }
+    if !is_wind(kind_of(s, c)) {
+        return false;
+    }
+    if parent_of(s, c) != focus_of(s) {
+        return false;
+    }
+    let d = depth_of(s, c);
+    if depth_of(s, a) < d {
+        return false;
+    }
+    lift(s, a, d) == c
+}
+
+// A target is made; a wind stands in the header only during a walk.
+fn walk_ok(s: &[u8]) -> bool
+    requires { ⌜ Whole (now s) ⌝ }
+    ensures { λ r. ⌜ Says r (WalkOk (fieldsOf (now (s .entry)))) ⌝ }
+{
+    let a = target_of(s);
+    let c = handed_of(s);
+    if a == Store::NONE {
+        return c == Store::NONE;
+    }
+    if !is_made(s, a) {
+        return false;
+    }
+    if c == Store::NONE {
+        return true;
+    }
+    handed_ok(s, a, c)
+}
+
+pub(crate) fn sound(s: &[u8]) -> bool
+    ensures { λ r. ⌜ Says r (Sound (now (s .entry))) ⌝ }
+{
+    if !whole(s) {
+        return false;
+    }
+    walk_ok(s)
 }

@@ -1,12 +1,12 @@
-// The store: bindings and winds on a tree in lent bytes, and the walk of its focus. Ten calls, and nothing else is public.
+// The store: bindings and winds on a tree in lent bytes, and the walk of its focus. Thirteen calls, and nothing else is public.
 ghost use mathlib.Core.Path.{_≡_};
 ghost use mathlib.Core.Bool.{false};
 ghost use mathlib.Core.List.{[], _∷_};
 ghost use Prim.Native.Nat.{_<_, _≤_};
 ghost use lib.ListN.{length};
-ghost use Rattle.layout.specs.Limits.{eventSize};
-ghost use Rattle.layout.specs.Records.{vars, focus};
-ghost use Rattle.layout.specs.Sound.{Says, Sound};
+ghost use Rattle.layout.specs.Limits.{noneN, eventSize};
+ghost use Rattle.layout.specs.Records.{vars, focus, target};
+ghost use Rattle.layout.specs.Sound.{Says, Whole, Sound};
 ghost use Rattle.layout.specs.Made.{IsMade, nextOf, IsFull};
 ghost use Rattle.layout.specs.Writes.{setB, bindB, windB};
 ghost use Rattle.layout.specs.Events.{told};
@@ -14,7 +14,7 @@ ghost use Rattle.layout.specs.Events.{eventsTo};
 ghost use Rattle.promises.specs.declared.Answer.the-variants as Answer;
 ghost use Rattle.promises.specs.Answers.{numbers};
 ghost use Rattle.store.specs.Cells.{ofCell};
-ghost use Rattle.promises.specs.Promises.{entering, roomRow, Switches, Openable, OpenPromise, BindPromise, WindPromise, LookPromise, SetPromise, HerePromise, GotoPromise, BackPromise, PeekPromise, FarPromise};
+ghost use Rattle.promises.specs.Promises.{entering, roomRow, Switches, Openable, OpenPromise, BindPromise, WindPromise, LookPromise, SetPromise, HerePromise, GotoPromise, BackPromise, PeekPromise, FarPromise, BeginPromise, StepPromise, DropPromise};
 use layout::Store;
 use promises::Answer;
 use promises::New;
@@ -31,6 +31,7 @@ mod number;
 mod opening;
 mod read;
 mod records;
+mod stride;
 mod trace;
 
 // A cell as an answer: its value with the decider, or that it has none.
@@ -75,7 +76,7 @@ pub fn look(s: &[u8], x: u32) -> Answer
 
 // The cell of x takes the value v.
 fn set_at(s: &mut [u8], x: usize, v: i32) -> Answer
-    requires { ⌜ Sound (now s) × (x < vars (now s)) ⌝ }
+    requires { ⌜ Whole (now s) × (x < vars (now s)) ⌝ }
     ensures { λ r. ⌜ (r ≡ Answer.Number (focus (now (s .entry)))) × (now (s .exit) ≡ setB (now (s .entry)) x v) ⌝ }
 {
     let f = records::focus_of(s);
@@ -103,7 +104,7 @@ pub fn set(s: &mut [u8], x: u32, v: i32) -> Answer
 
 // A binding of x to v: it stores the cell of x, and the cell takes v.
 fn bind_at(s: &mut [u8], x: usize, v: i32) -> Answer
-    requires { ⌜ Sound (now s) × ((x < vars (now s)) × (IsFull (now s) → ⊥)) ⌝ }
+    requires { ⌜ Whole (now s) × ((x < vars (now s)) × (IsFull (now s) → ⊥)) ⌝ }
     ensures { λ r. ⌜ (r ≡ Answer.Made (record { node = nextOf (now (s .entry)); events = 0 })) × (now (s .exit) ≡ bindB (now (s .entry)) x v) ⌝ }
 {
     let n = made::next_of(s);
@@ -122,6 +123,9 @@ pub fn bind(s: &mut [u8], x: u32, v: i32) -> Answer
 {
     if !check::sound(s) {
         return Answer::Refused(Refusal::Damaged);
+    }
+    if !stride::at_rest(s) {
+        return Answer::Refused(Refusal::Walking);
     }
     let y = x as usize;
     if !made::is_known(s, y) {
@@ -170,7 +174,7 @@ pub fn far(s: &[u8], a: u32, b: u32) -> Answer
 
 // A wind and its one event, entering p at the focus.
 fn wind_at(s: &mut [u8], t: &mut [u8], p: usize, q: usize) -> Answer
-    requires { ⌜ Sound (now s) × (IsFull (now s) → ⊥) ⌝ }
+    requires { ⌜ Whole (now s) × (IsFull (now s) → ⊥) ⌝ }
     requires { ⌜ (eventSize ≤ length (now t)) × ((p < 65536) × (q < 65536)) ⌝ }
     ensures { λ r. ⌜ r ≡ Answer.Made (record { node = nextOf (now (s .entry)); events = 1 }) ⌝ }
     ensures { λ r. ⌜ (now (s .exit) ≡ windB (now (s .entry)) p q) × (now (t .exit) ≡ told (entering (now (s .entry)) p) (now (t .entry))) ⌝ }
@@ -191,6 +195,9 @@ pub fn wind(s: &mut [u8], t: &mut [u8], p: u16, q: u16) -> Answer
     if !check::sound(s) {
         return Answer::Refused(Refusal::Damaged);
     }
+    if !stride::at_rest(s) {
+        return Answer::Refused(Refusal::Walking);
+    }
     if made::is_full(s) {
         return Answer::Refused(Refusal::Full);
     }
@@ -202,7 +209,7 @@ pub fn wind(s: &mut [u8], t: &mut [u8], p: u16, q: u16) -> Answer
 
 // The focus moves to a: surveyed first, then told, then walked.
 fn switch_to(s: &mut [u8], t: &mut [u8], a: usize) -> Answer
-    requires { ⌜ Sound (now s) × IsMade (now s) a ⌝ }
+    requires { ⌜ Sound (now s) × ((target (now s) ≡ noneN) × IsMade (now s) a) ⌝ }
     ensures { λ r. ⌜ Switches (now (s .entry)) (now (t .entry)) a (now (s .exit)) (now (t .exit)) (roomRow (now (t .entry)) (eventsTo (now (s .entry)) a) ∷ []) (numbers r) ⌝ }
 {
     let way = trace::survey(s, a);
@@ -227,6 +234,9 @@ pub fn goto(s: &mut [u8], t: &mut [u8], a: u32) -> Answer
     if !check::sound(s) {
         return Answer::Refused(Refusal::Damaged);
     }
+    if !stride::at_rest(s) {
+        return Answer::Refused(Refusal::Walking);
+    }
     let b = a as usize;
     if !made::is_made(s, b) {
         return Answer::Refused(Refusal::NoEnvironment);
@@ -241,12 +251,62 @@ pub fn back(s: &mut [u8], t: &mut [u8]) -> Answer
     if !check::sound(s) {
         return Answer::Refused(Refusal::Damaged);
     }
+    if !stride::at_rest(s) {
+        return Answer::Refused(Refusal::Walking);
+    }
     let f = records::focus_of(s);
     if f == 0 {
         return Answer::Refused(Refusal::Top);
     }
     let up = records::parent_of(s, f);
     switch_to(s, t, up)
+}
+
+// A walk to a is begun, and no move made.
+pub fn begin(s: &mut [u8], a: u32) -> Answer
+    ensures { λ r. ⌜ BeginPromise (now (s .entry)) a (now (s .exit)) (numbers r) ⌝ }
+{
+    if !check::sound(s) {
+        return Answer::Refused(Refusal::Damaged);
+    }
+    if !stride::at_rest(s) {
+        return Answer::Refused(Refusal::Walking);
+    }
+    let b = a as usize;
+    if !made::is_made(s, b) {
+        return Answer::Refused(Refusal::NoEnvironment);
+    }
+    let f = records::focus_of(s);
+    records::set_target(s, b);
+    Answer::Number(f as u16)
+}
+
+// The walk goes on, up to its next event or to its target.
+pub fn step(s: &mut [u8]) -> Answer
+    ensures { λ r. ⌜ StepPromise (now (s .entry)) (now (s .exit)) (numbers r) ⌝ }
+{
+    if !check::sound(s) {
+        return Answer::Refused(Refusal::Damaged);
+    }
+    if stride::at_rest(s) {
+        return Answer::Refused(Refusal::NotWalking);
+    }
+    stride::go_on(s)
+}
+
+// The walk is over, and the focus stays.
+pub fn drop(s: &mut [u8]) -> Answer
+    ensures { λ r. ⌜ DropPromise (now (s .entry)) (now (s .exit)) (numbers r) ⌝ }
+{
+    if !check::sound(s) {
+        return Answer::Refused(Refusal::Damaged);
+    }
+    if stride::at_rest(s) {
+        return Answer::Refused(Refusal::NotWalking);
+    }
+    let f = records::focus_of(s);
+    stride::end(s);
+    Answer::Number(f as u16)
 }
 
 // Whether open may write: document 01's row Setup, the other way round.

@@ -1,12 +1,11 @@
 // One move of the focus, and the walk: document 01 and TR397, Figure 4.
 ghost use mathlib.Core.Path.{_≡_};
-ghost use mathlib.Core.Bool.{Bool, true, false};
-ghost use Prim.Native.Nat.{ℕ, _+_, _<_, _≤_};
+ghost use Prim.Native.Nat.{_+_, _<_, _≤_};
 ghost use Rattle.rules.specs.Store.{goto};
-ghost use Rattle.layout.specs.Records.{vars, room, made, focus, nodeOf, varN};
+ghost use Rattle.layout.specs.Records.{vars, room, focus, nodeOf, varN};
 ghost use Rattle.layout.specs.Fields.{Fit};
 ghost use Rattle.layout.specs.View.{view};
-ghost use Rattle.layout.specs.Sound.{Sound};
+ghost use Rattle.layout.specs.Sound.{Whole};
 ghost use Rattle.layout.specs.Writes.{Turns, swapB, turnB, leaveB, enterB};
 ghost use Rattle.layout.specs.Made.{IsMade};
 ghost use Rattle.layout.specs.Becomes.{Becomes};
@@ -73,7 +72,7 @@ fn enter(s: &mut [u8], n: u16)
 // To a: a target that is out is entered after the focus has been brought to its parent; for a target that is in, the focus is
 // left first. It calls itself at one place and holds little across that call: 48 bytes of stack a level on x86-64.
 pub(crate) fn walk(s: &mut [u8], a: usize)
-    requires { ⌜ Sound (now s) × IsMade (now s) a ⌝ }
+    requires { ⌜ Whole (now s) × IsMade (now s) a ⌝ }
     ensures { λ _. ⌜ Becomes (now (s .entry)) (now (s .exit)) (goto a (view (now (s .entry)))) ⌝ }
 {
     if a == focus_of(s) {

@@ -3,18 +3,21 @@ ghost use mathlib.Core.Path.{_≡_};
 ghost use mathlib.Core.List.{_++_};
 ghost use Prim.Native.Nat.{_*_, _<_, _≤_};
 ghost use lib.ListN.{length, drop, replicate};
-ghost use Rattle.layout.specs.Limits.{maxVars, header, bareSize, nodeSize, sizeOf};
+ghost use Rattle.layout.specs.Limits.{noneN, maxVars, header, bareSize, nodeSize, sizeOf};
 ghost use Rattle.layout.specs.Records.{headB, withHeader, withCells};
 ghost use Rattle.layout.specs.Writes.{cellsB, nodesB, openB};
 ghost use Rattle.layout.specs.Opening.{OpenFits};
 use crate::records::new_cell;
 use crate::records::set_focus;
+use crate::records::set_handed;
 use crate::records::set_made;
 use crate::records::set_room;
+use crate::records::set_target;
 use crate::records::set_vars;
 use crate::records::size_of;
 use crate::records::top_cell;
 use crate::records::turn_node;
+use layout::Store;
 
 fn clear(p: &mut [u8])
     ensures { λ _. ⌜ now (p .exit) ≡ replicate (length (now (p .entry))) 0 ⌝ }
@@ -26,15 +29,17 @@ fn clear(p: &mut [u8])
     }
 }
 
-// V, N, one environment made, the top as the focus.
+// V, N, one environment made, the top as the focus, and no walk.
 fn put_head(s: &mut [u8], v: usize, n: usize)
     requires { ⌜ (header ≤ length (now s)) × ((v < 65536) × (n < 65536)) ⌝ }
-    ensures { λ _. ⌜ now (s .exit) ≡ withHeader (now (s .entry)) (headB v n 1 0) ⌝ }
+    ensures { λ _. ⌜ now (s .exit) ≡ withHeader (now (s .entry)) (headB v n 1 0 noneN noneN) ⌝ }
 {
     set_vars(s, v);
     set_room(s, n);
     set_made(s, 1);
     set_focus(s, 0);
+    set_target(s, Store::NONE);
+    set_handed(s, Store::NONE);
 }
 
 // The cells of v variables, one by one.

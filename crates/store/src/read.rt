@@ -5,7 +5,7 @@ ghost use Rattle.rules.specs.Tree.{binds};
 ghost use Rattle.rules.specs.Calls.{deciderAt, peekOf};
 ghost use Rattle.layout.specs.Records.{vars, focus, ProperCell};
 ghost use Rattle.layout.specs.View.{asCell, view};
-ghost use Rattle.layout.specs.Sound.{Sound};
+ghost use Rattle.layout.specs.Sound.{Whole};
 ghost use Rattle.layout.specs.Made.{IsMade};
 ghost use Rattle.layout.specs.laws.Reading.{binderOf, Ahead, lastBelow, FoundAt};
 use crate::kinds::is_out;
@@ -27,7 +27,7 @@ pub(crate) struct Found {
 
 // Whether the node n is a binding of x.
 fn binds(s: &[u8], n: usize, x: usize) -> bool
-    requires { ⌜ Sound (now s) × IsMade (now s) n ⌝ }
+    requires { ⌜ Whole (now s) × IsMade (now s) n ⌝ }
     ensures { λ r. ⌜ r ≡ binds (view (now (s .entry)) .tree .what n) x ⌝ }
 {
     let k = kind_of(s, n);
@@ -39,7 +39,7 @@ fn binds(s: &[u8], n: usize, x: usize) -> bool
 
 // From a up to the first node that binds x, and 0 where there is none.
 pub(crate) fn decider_of(s: &[u8], a: usize, x: usize) -> usize
-    requires { ⌜ Sound (now s) × IsMade (now s) a ⌝ }
+    requires { ⌜ Whole (now s) × IsMade (now s) a ⌝ }
     ensures { λ r. ⌜ (binderOf r ≡ deciderAt (view (now (s .entry)) .tree) a x) × IsMade (now (s .entry)) r ⌝ }
 {
     let mut n = a;
@@ -54,7 +54,7 @@ pub(crate) fn decider_of(s: &[u8], a: usize, x: usize) -> usize
 
 // From the focus up to the node `stop`, the last binding of x on the way, and 0 where there is none.
 fn last_below(s: &[u8], stop: usize, x: usize) -> usize
-    requires { ⌜ Sound (now s) × Ahead (now s) stop (focus (now s)) ⌝ }
+    requires { ⌜ Whole (now s) × Ahead (now s) stop (focus (now s)) ⌝ }
     ensures { λ r. ⌜ (binderOf r ≡ lastBelow (now (s .entry)) stop x) × IsMade (now (s .entry)) r ⌝ }
 {
     let mut seen = 0;
@@ -71,7 +71,7 @@ fn last_below(s: &[u8], stop: usize, x: usize) -> usize
 // The decider's own value: one that is out stores it; for one that is in, and for the top, the last binding of x below it
 // stores it, and where there is none the cell of x holds it.
 fn cell_by(s: &[u8], d: usize, x: usize) -> [u8; Store::BARE]
-    requires { ⌜ Sound (now s) × (IsMade (now s) d × (x < vars (now s))) ⌝ }
+    requires { ⌜ Whole (now s) × (IsMade (now s) d × (x < vars (now s))) ⌝ }
     ensures { λ r. ⌜ (asCell r ≡ peekOf (view (now (s .entry))) x (binderOf d)) × ProperCell r ⌝ }
 {
     if is_out(kind_of(s, d)) {
@@ -87,7 +87,7 @@ fn cell_by(s: &[u8], d: usize, x: usize) -> [u8; Store::BARE]
 
 // What peek answers.
 pub(crate) fn find(s: &[u8], a: usize, x: usize) -> Found
-    requires { ⌜ Sound (now s) × (IsMade (now s) a × (x < vars (now s))) ⌝ }
+    requires { ⌜ Whole (now s) × (IsMade (now s) a × (x < vars (now s))) ⌝ }
     ensures { λ r. ⌜ FoundAt (now (s .entry)) a x (r .by) (r .cell) ⌝ }
 {
     let d = decider_of(s, a, x);

@@ -5,14 +5,14 @@ ghost use Prim.Native.Nat.{_+_, _*_, _<_, _≤_};
 ghost use lib.ListN.{length, drop};
 ghost use Rattle.layout.specs.Limits.{header, cellSize, bareSize, nodeSize, eventSize, cellAt, nodeAt, sizeOf};
 ghost use Rattle.layout.specs.Bytes.{splice};
-ghost use Rattle.layout.specs.Records.{headN, withHead, vars, room, made, focus, withFocus, withMade, cellOf, withCell, cellIn, putIn, bareC, putC, wholeC, topC, nodeOf, withNode, kindN, parentN, varN, postN, storedN, depthN, turnN, swapN, nodeB};
+ghost use Rattle.layout.specs.Records.{headN, withHead, vars, room, made, focus, target, handed, withFocus, withMade, withTarget, withHanded, cellOf, withCell, cellIn, putIn, bareC, putC, wholeC, topC, nodeOf, withNode, kindN, parentN, varN, postN, storedN, depthN, turnN, swapN, nodeB};
 ghost use Rattle.layout.specs.Fields.{Fit};
 ghost use Rattle.layout.specs.Events.{eventD};
 use crate::number::put16_at;
 use crate::number::u16_at;
 use layout::Store;
 
-// ---- the header: V, N, made, focus
+// ---- the header: V, N, made, focus; of a walk its target, and the wind whose entering was handed over
 
 // Its number k.
 fn head_of(s: &[u8], k: usize) -> usize
@@ -57,6 +57,20 @@ pub(crate) fn focus_of(s: &[u8]) -> usize
     head_of(s, 3)
 }
 
+pub(crate) fn target_of(s: &[u8]) -> usize
+    requires { ⌜ header ≤ length (now s) ⌝ }
+    ensures { λ r. ⌜ (r ≡ target (now (s .entry))) × (r < 65536) ⌝ }
+{
+    head_of(s, 4)
+}
+
+pub(crate) fn handed_of(s: &[u8]) -> usize
+    requires { ⌜ header ≤ length (now s) ⌝ }
+    ensures { λ r. ⌜ (r ≡ handed (now (s .entry))) × (r < 65536) ⌝ }
+{
+    head_of(s, 5)
+}
+
 pub(crate) fn set_vars(s: &mut [u8], v: usize)
     requires { ⌜ (header ≤ length (now s)) × (v < 65536) ⌝ }
     ensures { λ _. ⌜ now (s .exit) ≡ withHead (now (s .entry)) 0 v ⌝ }
@@ -83,6 +97,20 @@ pub(crate) fn set_focus(s: &mut [u8], f: usize)
     ensures { λ _. ⌜ now (s .exit) ≡ withFocus (now (s .entry)) f ⌝ }
 {
     set_head(s, 3, f);
+}
+
+pub(crate) fn set_target(s: &mut [u8], a: usize)
+    requires { ⌜ (header ≤ length (now s)) × (a < 65536) ⌝ }
+    ensures { λ _. ⌜ now (s .exit) ≡ withTarget (now (s .entry)) a ⌝ }
+{
+    set_head(s, 4, a);
+}
+
+pub(crate) fn set_handed(s: &mut [u8], c: usize)
+    requires { ⌜ (header ≤ length (now s)) × (c < 65536) ⌝ }
+    ensures { λ _. ⌜ now (s .exit) ≡ withHanded (now (s .entry)) c ⌝ }
+{
+    set_head(s, 5, c);
 }
 
 // ---- a cell

@@ -7,7 +7,7 @@ ghost use Rattle.layout.specs.Limits.{eventSize};
 ghost use Rattle.layout.specs.Records.{room, nodeOf};
 ghost use Rattle.layout.specs.Fields.{Fit};
 ghost use Rattle.layout.specs.View.{whatN};
-ghost use Rattle.layout.specs.Sound.{Sound};
+ghost use Rattle.layout.specs.Sound.{Whole};
 ghost use Rattle.layout.specs.Events.{told, eventsTo};
 ghost use Rattle.layout.specs.Made.{IsMade};
 ghost use Rattle.layout.specs.Routes.{movesTo, leftEvents, enteredEvents, meeting, OnWay, Climbing, toldAt, Entering};
@@ -42,7 +42,7 @@ fn wind_bit(s: &[u8], n: usize) -> usize
 
 // From the target up, while nodes are out: these are to be entered. It ends at the meeting point.
 fn rise_out(s: &[u8], a: usize) -> Climb
-    requires { ⌜ Sound (now s) × IsMade (now s) a ⌝ }
+    requires { ⌜ Whole (now s) × IsMade (now s) a ⌝ }
     ensures { λ r. ⌜ Climbing (now (s .entry)) a (r .at) (r .moves) (r .events) × (r .at ≡ meeting (now (s .entry)) a) ⌝ }
 {
     let mut at = a;
@@ -58,7 +58,7 @@ fn rise_out(s: &[u8], a: usize) -> Climb
 
 // From the focus up to the meeting point: these are to be left.
 fn rise_to(s: &[u8], meet: usize) -> Climb
-    requires { ⌜ Sound (now s) × OnWay (now s) meet ⌝ }
+    requires { ⌜ Whole (now s) × OnWay (now s) meet ⌝ }
     ensures { λ r. ⌜ (r .at ≡ meet) × ((r .moves ≡ movesTo (now (s .entry)) meet) × (r .events ≡ length (eventsTo (now (s .entry)) meet))) ⌝ }
 {
     let mut at = focus_of(s);
@@ -74,7 +74,7 @@ fn rise_to(s: &[u8], meet: usize) -> Climb
 
 // The meeting point of a switch to a, its moves and its events.
 pub(crate) fn survey(s: &[u8], a: usize) -> Climb
-    requires { ⌜ Sound (now s) × IsMade (now s) a ⌝ }
+    requires { ⌜ Whole (now s) × IsMade (now s) a ⌝ }
     ensures { λ r. ⌜ (r .at ≡ meeting (now (s .entry)) a) × ((r .moves ≡ movesTo (now (s .entry)) a) × (r .events ≡ length (eventsTo (now (s .entry)) a))) ⌝ }
 {
     let out = rise_out(s, a);
@@ -90,7 +90,7 @@ pub(crate) fn survey(s: &[u8], a: usize) -> Climb
 
 // Leaving n, told as the event e if n is a wind: the number of the next. The place is the wind's parent.
 fn tell_left(s: &[u8], t: &mut [u8], n: usize, e: usize) -> usize
-    requires { ⌜ Sound (now s) × IsMade (now s) n ⌝ }
+    requires { ⌜ Whole (now s) × IsMade (now s) n ⌝ }
     requires { ⌜ eventSize * (e + length (leftEvents (now s) n)) ≤ length (now t) ⌝ }
     ensures { λ r. ⌜ (r ≡ e + length (leftEvents (now (s .entry)) n)) × (now (t .exit) ≡ toldAt e (leftEvents (now (s .entry)) n) (now (t .entry))) ⌝ }
 {
@@ -103,7 +103,7 @@ fn tell_left(s: &[u8], t: &mut [u8], n: usize, e: usize) -> usize
 
 // Entering n, told as the event before e if n is a wind: its number, else e. The place is the wind's parent.
 fn tell_entered(s: &[u8], t: &mut [u8], n: usize, e: usize) -> usize
-    requires { ⌜ Sound (now s) × IsMade (now s) n ⌝ }
+    requires { ⌜ Whole (now s) × IsMade (now s) n ⌝ }
     requires { ⌜ (length (enteredEvents (now s) n) ≤ e) × (eventSize * e ≤ length (now t)) ⌝ }
     ensures { λ r. ⌜ (r + length (enteredEvents (now (s .entry)) n) ≡ e) × (now (t .exit) ≡ toldAt r (enteredEvents (now (s .entry)) n) (now (t .entry))) ⌝ }
 {
@@ -116,7 +116,7 @@ fn tell_entered(s: &[u8], t: &mut [u8], n: usize, e: usize) -> usize
 
 // The leaving events, forward from the focus to the meeting point.
 fn tell_leaving(s: &[u8], t: &mut [u8], meet: usize)
-    requires { ⌜ Sound (now s) × OnWay (now s) meet ⌝ }
+    requires { ⌜ Whole (now s) × OnWay (now s) meet ⌝ }
     requires { ⌜ eventSize * length (eventsTo (now s) meet) ≤ length (now t) ⌝ }
     ensures { λ _. ⌜ now (t .exit) ≡ toldAt 0 (eventsTo (now (s .entry)) meet) (now (t .entry)) ⌝ }
 {
@@ -130,7 +130,7 @@ fn tell_leaving(s: &[u8], t: &mut [u8], meet: usize)
 
 // The entering events, backward from the last one, climbing from the target to the meeting point.
 fn tell_entering(s: &[u8], t: &mut [u8], a: usize, meet: usize, events: usize)
-    requires { ⌜ (Sound (now s) × IsMade (now s) a) × ((meet ≡ meeting (now s) a) × (events ≡ length (eventsTo (now s) a))) ⌝ }
+    requires { ⌜ (Whole (now s) × IsMade (now s) a) × ((meet ≡ meeting (now s) a) × (events ≡ length (eventsTo (now s) a))) ⌝ }
     requires { ⌜ eventSize * events ≤ length (now t) ⌝ }
     ensures { λ _. ⌜ Entering (now (s .entry)) a meet (length (eventsTo (now (s .entry)) meet)) (now (t .entry)) (now (t .exit)) ⌝ }
 {
@@ -144,7 +144,7 @@ fn tell_entering(s: &[u8], t: &mut [u8], a: usize, meet: usize, events: usize)
 
 // The events of a switch to a, from the start of the trace; meet and events are the survey's.
 pub(crate) fn tell(s: &[u8], t: &mut [u8], a: usize, meet: usize, events: usize)
-    requires { ⌜ (Sound (now s) × IsMade (now s) a) × ((meet ≡ meeting (now s) a) × (events ≡ length (eventsTo (now s) a))) ⌝ }
+    requires { ⌜ (Whole (now s) × IsMade (now s) a) × ((meet ≡ meeting (now s) a) × (events ≡ length (eventsTo (now s) a))) ⌝ }
     requires { ⌜ eventSize * events ≤ length (now t) ⌝ }
     ensures { λ _. ⌜ now (t .exit) ≡ told (eventsTo (now (s .entry)) a) (now (t .entry)) ⌝ }
 {

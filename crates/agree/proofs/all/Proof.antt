@@ -4,10 +4,10 @@ use Rattle.agree.proofs.all.Statement.{statement}
 use Rattle.agree.proofs.all.Tie as tie
 
 abbrev Inv-loop : tie.InvT-loop
-Inv-loop m₀ seed₀ m seed = seed ≤ 6001
+Inv-loop m₀ seed₀ m seed = seed ≤ 12001
 
 abbrev μ-loop : tie.MeasureT-loop
-μ-loop m₀ seed₀ m seed = 6001 - seed
+μ-loop m₀ seed₀ m seed = 12001 - seed
 
 loop-holds : tie.Need-loop-holds Inv-loop μ-loop
 loop-holds c = search needs

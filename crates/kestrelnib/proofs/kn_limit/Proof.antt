@@ -57,7 +57,7 @@ returns-7 c =
     let n = c .before .args .which in
     let r = c .match .rest in
     let past : 6 ≤ n = omega (arith, r .1, r .0 .1, r .0 .0 .1, r .0 .0 .0 .1, r .0 .0 .0 .0 .1, r .0 .0 .0 .0 .0 .1) in
-    sym (List·getD-eq-default (256 ∷ 2048 ∷ 8 ∷ 5 ∷ 14 ∷ 5 ∷ []) 0 {n = n} past)
+    sym (List·getD-eq-default (256 ∷ 2048 ∷ 12 ∷ 5 ∷ 14 ∷ 5 ∷ []) 0 {n = n} past)
 
 pub kn-limit-spec : {M : Type 1} → statement M
 kn-limit-spec =

@@ -12,7 +12,7 @@ use Rattle.kestrelnib.proofs.numbered.Tie as tie
 
 -- the reply with the numbers n
 abbrev replied : Flat → Reply
-replied n = record { out = n .out; code = n .code; moves = n .moves; events = n .events; by = n .by }
+replied n = record { out = n .out; code = n .code; moves = n .moves; events = n .events; by = n .by; thunk = n .thunk; event = n .event }
 
 numbers-of-requires : tie.Need-numbers-of-requires
 numbers-of-requires c κs = search needs

@@ -18,11 +18,11 @@ use Rattle.rules.specs.Basic.{on, clash, on-head, on-cases}
 use Rattle.rules.specs.Tree.{Tree, Proper, path, path-top, path-up, path-once, downward, on-path-above, rank-depth}
 use Rattle.rules.specs.Modes.{num, count, count-on, modes-by-count}
 use Rattle.layout.specs.Bytes.{Zeros, zeros-list, list-zeros}
-use Rattle.layout.specs.Records.{made, kindN, parentN, depthN, topNode}
+use Rattle.layout.specs.Records.{kindN, parentN, depthN, topNode}
 use Rattle.layout.specs.Kinds.{isIn, isOut, node-kind, out-not-in}
 use Rattle.layout.specs.Fields.{Fields, fieldsOf, madeF, focusF}
 use Rattle.layout.specs.View.{upN, treeF}
-use Rattle.layout.specs.Sound.{Says, Shape, Ins, Sound}
+use Rattle.layout.specs.Sound.{Says, Shape, Ins, Whole}
 use Rattle.layout.specs.laws.Laws.{OfBuffer, of-buffer}
 use Rattle.layout.specs.laws.SoundLaws.{Place, is-top, is-inner, is-blank, place, out-top, shape-inners, parents-made, inner-up, up-inner, shape-proper, shape-ranked, path-made, modes-by-numbers, sound-fit}
 
@@ -226,7 +226,7 @@ module _ (f : Fields) (buffer : OfBuffer f) (ok : Shape f) where
         go (yes z) = inl z
         go (no z) = inr (rw (path-above (focusF f) (omega arith) (ok .head .focus-made)) (on-head (focusF f) (path tree (above (focusF f)))))
 
-pub sound-rises : (s : List ℕ) → Sound s → AllRise (fieldsOf s)
+pub sound-rises : (s : List ℕ) → Whole s → AllRise (fieldsOf s)
 sound-rises s ok = ins-rise (fieldsOf s) (of-buffer s (sound-fit s ok)) (ok .fields .shape) (ok .fields .ins)
 
 -- the two ways out of `if b { return ..; }`

@@ -23,7 +23,7 @@ use Rattle.layout.specs.Records.{vars, room, made, focus, withFocus, wit
 use Rattle.layout.specs.Kinds.{isIn, IsBinding, IsWind, not-both}
 use Rattle.layout.specs.Fields.{Fields, cells, nodes, fieldsOf, Fit}
 use Rattle.layout.specs.View.{asCell, whatN, upN, treeF, viewF, view}
-use Rattle.layout.specs.Sound.{NodeOk, depthAbove, Shape, Sound}
+use Rattle.layout.specs.Sound.{NodeOk, depthAbove, Shape, Whole}
 use Rattle.layout.specs.Writes.{depthUnder, setB, growB, bindB, windB}
 use Rattle.layout.specs.Made.{nextOf, IsFull}
 use Rattle.layout.specs.Becomes.{Becomes}
@@ -33,13 +33,13 @@ use Rattle.layout.specs.laws.SoundLaws.{what-binding, what-wind, what-bl
 use Rattle.layout.specs.laws.MoveLaws.{through, becomes}
 
 -- ---- the depth of a child of the focus, as the code finds it; it fits in two bytes
-pub under-is : (s : List ℕ) → Sound s → (f d : ℕ) → f ≡ focus s → d ≡ depthN (nodeOf s f) → d + 1 ≡ depthUnder s
+pub under-is : (s : List ℕ) → Whole s → (f d : ℕ) → f ≡ focus s → d ≡ depthN (nodeOf s f) → d + 1 ≡ depthUnder s
 unfolding depthUnder fieldsOf
 under-is s ok f d e h =
     let same = node-in s (focus s) (omega (arith, ok .fields .shape .head .focus-made, ok .fields .shape .head .made-high)) in
     omega (arith, ap depthN same, ap (λ (n : ℕ). depthN (nodeOf s n)) e)
 
-pub under-small : (s : List ℕ) → Sound s → depthUnder s < 65536
+pub under-small : (s : List ℕ) → Whole s → depthUnder s < 65536
 unfolding depthUnder fieldsOf
 under-small s ok =
     let few = depth-few (fieldsOf s) (of-buffer s (sound-fit s ok)) (ok .fields .shape) (focus s) in
@@ -73,7 +73,7 @@ put-proper g n x c h p y l = go (ℕ-discrete y x)
     go (yes e) = rw (e, upd-same) p
     go (no e) = rw (upd-other g x y c e) (h y l)
 
-module _ (s : List ℕ) (ok : Sound s) (x : ℕ) (known : x < vars s) (v : ℤ) (fits : SFits w32 v) where
+module _ (s : List ℕ) (ok : Whole s) (x : ℕ) (known : x < vars s) (v : ℤ) (fits : SFits w32 v) where
   cells-seen : _≡_ {A = ℕ → Cell} (λ y. asCell (bareC (upd (cells s) x (taken s (sound-fit s ok) x known v) y))) (upd (λ y. asCell (bareC (cells s y))) x (value v))
   cells-seen =
       through (λ (q : List ℕ). asCell (bareC q)) (cells s) x (taken s (sound-fit s ok) x known v)
@@ -83,7 +83,7 @@ module _ (s : List ℕ) (ok : Sound s) (x : ℕ) (known : x < vars s) (v : ℤ) 
   unfolding view viewF fieldsOf
   set-becomes =
       let sh : Shape (fieldsOf s) = ok .fields .shape in
-      becomes (setCell x (value v) (view s)) ok (wrote-set s (sound-fit s ok) x known v) refl refl
+      becomes (setCell x (value v) (view s)) ok (wrote-set s (sound-fit s ok) x known v) refl refl refl refl
       (record {
         head = sh .head;
         cells = put-proper (cells s) (vars s) x _ (sh .cells) (rw (taken-bare s (sound-fit s ok) x known v) (proper-value v));
@@ -100,7 +100,7 @@ module _ (s : List ℕ) (ok : Sound s) (x : ℕ) (known : x < vars s) (v : ℤ) 
       (set-sound x (value v) (view s) (sound-view s ok))
 
 -- ---- a new node p, number = made
-module _ (s : List ℕ) (ok : Sound s) (space : made s < room s) (p : List ℕ) (long : length p ≡ nodeSize) where
+module _ (s : List ℕ) (ok : Whole s) (space : made s < room s) (p : List ℕ) (long : length p ≡ nodeSize) where
   abbrev m : ℕ
   m = made s
 
@@ -175,7 +175,7 @@ pub is-wind : {w : What} (p q : ℕ) → w ≡ wind p q → w ≢ blank
 is-wind p q e z = let y : _≡_ {A = ℕ} 0 1 = cc in omega arith
 
 -- not full: there is a number left
-pub space-left : (s : List ℕ) → Sound s → (IsFull s → ⊥) → made s < room s
+pub space-left : (s : List ℕ) → Whole s → (IsFull s → ⊥) → made s < room s
 unfolding IsFull fieldsOf
 space-left s ok h = go (ℕ-discrete (made s) (room s))
   where
@@ -183,7 +183,7 @@ space-left s ok h = go (ℕ-discrete (made s) (room s))
     go (yes e) = absurd (h e)
     go (no e) = omega (arith, ok .fields .shape .head .made-high)
 
-module _ (s : List ℕ) (ok : Sound s) (space : IsFull s → ⊥) where
+module _ (s : List ℕ) (ok : Whole s) (space : IsFull s → ⊥) where
   -- the grown bytes have the same size
   pub grown-fit : (p : List ℕ) → length p ≡ nodeSize → Fit (growB s p)
   unfolding fieldsOf
@@ -227,7 +227,7 @@ module _ (s : List ℕ) (ok : Sound s) (space : IsFull s → ⊥) where
         stored = λ z. absurd (not-both z is);
         still = λ z. stored;
       } in
-      becomes (make (made s) (wind a b) unbound (depthUnder s) (view s)) ok (wrote-grow s ok room-left p long) refl refl
+      becomes (make (made s) (wind a b) unbound (depthUnder s) (view s)) ok (wrote-grow s ok room-left p long) refl refl refl refl
       (grown-shape s ok room-left p long below good (cells s) (ok .fields .shape .cells))
       (grown-seen s ok room-left p long (cells s) (wind a b) what (up-node p (inr is) ∙ ap some up) depth (inside kind) ∙ (rw (stored, as-blank, upd-same (view s .tree .what) (made s) (wind a b))))
       (make-sound unbound (view s) (sound-view s ok) (can-grow (wind a b) (is-wind a b refl)))
@@ -272,7 +272,7 @@ module _ (s : List ℕ) (ok : Sound s) (space : IsFull s → ⊥) where
       subst (λ (g : Fields). Wrote s (setB t x v) (cellF x (putC (g .cell x) (valueC v)) g)) (w .fields) (then w (wrote-set t fit′ x known′ v)) in
       let bytes : setB t x v ≡ bindB s x v = ap (λ (d : List ℕ). setB (growB s (nodeB 3 f x 0 (bareC d) (depthUnder s))) x v) (cell-in s x known) in
       subst (λ (u : List ℕ). Becomes s u (make (made s) (binding x) (value v) (depthUnder s) (view s))) bytes
-      (becomes (make (made s) (binding x) (value v) (depthUnder s) (view s)) ok all refl refl
+      (becomes (make (made s) (binding x) (value v) (depthUnder s) (view s)) ok all refl refl refl refl
       (grown-shape s ok room-left p long below good (upd (cells s) x q) (put-proper (cells s) (vars s) x q (ok .fields .shape .cells) (rw (taken-bare s fit x known v) (proper-value v))))
       (grown-seen s ok room-left p long (upd (cells s) x q) (binding x) what (up-node p (inl is) ∙ ap some up) depth (inside kind)
       ∙ rw (stored, cells-seen s ok x known v fits) (ap with-values (sym (make-binding (made s) x (value v) (depthUnder s) (view s)))))

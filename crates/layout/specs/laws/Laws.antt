@@ -1,6 +1,6 @@
 -- What is read after a write. The header, the cells and the nodes are apart, so each write changes one field of `Fields`,
 -- the buffer keeps its length and the bytes past the size stay. Assumes nothing.
--- Of the laws, these and PlaceLaws know the records' places, and RecordLaws the fields'.
+-- Of the laws, these, PlaceLaws and ByteLaws know the records' places, and RecordLaws the fields'.
 use mathlib.Core.Path.{_≡_, sym, ap, _∙_, fun-ext}
 use mathlib.Core.Logic.{_≢_}
 use mathlib.Core.Bool.{cond}
@@ -14,7 +14,7 @@ use borrow.Author.Tests.{lt-ltb, le-ltb, ne-eqb}
 use Rattle.rules.specs.Basic.{upd, upd-same, upd-other, eqb-self}
 use Rattle.layout.specs.Limits.{header, cellSize, nodeSize, cellAt, nodeAt, sizeOf}
 use Rattle.layout.specs.Bytes.{part, u16, put16, part-length, splice-length, splice-same, splice-before, splice-after, splice-apart, splice-drop, put16-length, u16-same, u16-other}
-use Rattle.layout.specs.Records.{headOf, headN, withHead, withMade, withFocus, vars, room, cellOf, withCell, nodeOf, withNode, blankNode}
+use Rattle.layout.specs.Records.{headOf, headN, withHead, withMade, withFocus, withTarget, withHanded, vars, room, cellOf, withCell, nodeOf, withNode, blankNode}
 use Rattle.layout.specs.Fields.{Fields, varsF, roomF, cells, nodes, fieldsOf, Fit, past}
 
 -- ---- the records of a buffer
@@ -119,8 +119,14 @@ madeTo = headF 2
 abbrev pub focusTo : ℕ → Fields → Fields
 focusTo = headF 3
 
+abbrev pub targetTo : ℕ → Fields → Fields
+targetTo = headF 4
+
+abbrev pub handedTo : ℕ → Fields → Fields
+handedTo = headF 5
+
 -- the numbers of the header as fields
-fields-number : (t : List ℕ) {f : Fields} → fieldsOf t ≡ f → (k : ℕ) → headN t k ≡ f .head k
+pub fields-number : (t : List ℕ) {f : Fields} → fieldsOf t ≡ f → (k : ℕ) → headN t k ≡ f .head k
 unfolding fieldsOf
 fields-number t e k = ap (λ (g : Fields). g .head k) e
 
@@ -291,6 +297,12 @@ module _ (s : List ℕ) (v : ℕ) (fit : Fit s) where
 
   pub wrote-focus : Wrote s (withFocus s v) (focusTo v (fieldsOf s))
   wrote-focus = wrote-head s 3 v fit (omega arith) (omega arith)
+
+  pub wrote-target : Wrote s (withTarget s v) (targetTo v (fieldsOf s))
+  wrote-target = wrote-head s 4 v fit (omega arith) (omega arith)
+
+  pub wrote-handed : Wrote s (withHanded s v) (handedTo v (fieldsOf s))
+  wrote-handed = wrote-head s 5 v fit (omega arith) (omega arith)
 
 -- ---- writes in a row
 pub wrote-fit : {s t : List ℕ} {f : Fields} → Wrote s t f → varsF f ≡ vars s → roomF f ≡ room s → Fit s → Fit t

@@ -15,14 +15,14 @@ use Rattle.rules.specs.Values.{Cell, Values, exchange}
 use Rattle.rules.specs.Store as store
 use Rattle.rules.specs.Store.{leave-sound, enter-sound}
 use Rattle.layout.specs.Limits.{cellSize, nodeSize}
-use Rattle.layout.specs.Records.{vars, room, made, focus, withFocus, blankCell, ProperCell, cellOf, bareC, putC, nodeOf, withNode, withCell, kindN, parentN, varN, storedN, depthN, turnN, swapN}
+use Rattle.layout.specs.Records.{vars, room, made, focus, target, handed, withFocus, blankCell, ProperCell, cellOf, bareC, putC, nodeOf, withNode, withCell, kindN, parentN, varN, storedN, depthN, turnN, swapN}
 use Rattle.layout.specs.Kinds.{isIn, leftKind, enteredKind, kind-binding, kind-wind, Node, binding-out, binding-in, wind-out, wind-in, node-kind, IsBinding, IsWind, IsNode, not-both}
-use Rattle.layout.specs.Fields.{Fields, cells, nodes, fieldsOf, Fit, past, varsF, roomF, madeF, focusF}
+use Rattle.layout.specs.Fields.{Fields, cells, nodes, fieldsOf, Fit, past, varsF, roomF, madeF, focusF, targetF, handedF}
 use Rattle.layout.specs.View.{asCell, whatN, upN, treeF, viewF, view}
-use Rattle.layout.specs.Sound.{NodeOk, depthAbove, HeadOk, Shape, Sound}
+use Rattle.layout.specs.Sound.{NodeOk, depthAbove, HeadOk, Shape, Whole}
 use Rattle.layout.specs.Writes.{swapB, turnB, moveB, leaveB, enterB, Turns}
 use Rattle.layout.specs.Becomes.{Becomes}
-use Rattle.layout.specs.laws.Laws.{OfBuffer, of-buffer, node-in, cell-in, Wrote, nodeF, cellF, focusTo, fields-vars, fields-room, wrote-node, wrote-cell, wrote-focus, wrote-fit, then}
+use Rattle.layout.specs.laws.Laws.{OfBuffer, of-buffer, node-in, cell-in, Wrote, nodeF, cellF, focusTo, fields-number, fields-vars, fields-room, wrote-node, wrote-cell, wrote-focus, wrote-fit, then}
 use Rattle.layout.specs.laws.RecordLaws.{put-length, turn-length, swap-length, bare-length, stored-length, bare-put, SameNode, turn-kind, turn-same, turn-stored, swap-kind, swap-same, swap-stored}
 use Rattle.layout.specs.laws.SoundLaws.{what-binding, what-wind, up-node, inner-up, sound-fit, sound-view, shape-inners, parents-made, shape-blanks, shape-by-numbers}
 
@@ -213,19 +213,23 @@ wrote-wind s n k fit below =
     (wrote-node s n (turnN (nodes s n) k) fit below (turn-length (nodes s n) k ∙ of-buffer s fit .node-long n))
 
 -- ---- from fields that were written to the store that they are seen as
-pub becomes : {s t : List ℕ} {f : Fields} (w : store.Store) → Sound s → Wrote s t f → varsF f ≡ vars s → roomF f ≡ room s → Shape f
+pub becomes : {s t : List ℕ} {f : Fields} (w : store.Store) → Whole s → Wrote s t f → varsF f ≡ vars s → roomF f ≡ room s → targetF f ≡ target s → handedF f ≡ handed s → Shape f
     → viewF f ≡ w → store.Sound w → Becomes s t w
 unfolding view viewF
-becomes {s} {t} {f} w ok wrote v r shape seen sound =
+becomes {s} {t} {f} w ok wrote v r a c shape seen sound =
     let fit : Fit t = wrote-fit wrote v r (sound-fit s ok) in
     let ins : store.Sound (viewF f) = rw seen sound in
     record {
       sound = record { long = fit .long; fields = rw (wrote .fields) (record { shape = shape; ins = ins .modes }) };
       seen = ap viewF (wrote .fields) ∙ seen;
-      kept = record { vars = fields-vars t (wrote .fields) ∙ v; room = fields-room t (wrote .fields) ∙ r; long = wrote .long; past = wrote .rest };
+      kept = record {
+        size = record { vars = fields-vars t (wrote .fields) ∙ v; room = fields-room t (wrote .fields) ∙ r; long = wrote .long; past = wrote .rest };
+        target = fields-number t (wrote .fields) 4 ∙ a;
+        handed = fields-number t (wrote .fields) 5 ∙ c;
+      };
     }
 
-module _ (s : List ℕ) (ok : Sound s) (n : ℕ) (inner : 1 ≤ n) (below : n < made s) where
+module _ (s : List ℕ) (ok : Whole s) (n : ℕ) (inner : 1 ≤ n) (below : n < made s) where
   shape : Shape (fieldsOf s)
   shape = ok .fields .shape
 
@@ -253,7 +257,7 @@ module _ (s : List ℕ) (ok : Sound s) (n : ℕ) (inner : 1 ≤ n) (below : n < 
       let all : Wrote s (moveB s n k g) (focusTo g (swapF (fieldsOf s) n k)) =
       rw (kind-binding (kindN (nodeOf s n)) _ _ _ _ (rw (node-in s n in-room) at a))
       (subst (λ (f : Fields). Wrote s (withFocus (swapB s n k) g) (focusTo g f)) (w .fields) (then w (wrote-focus (swapB s n k) g fit′))) in
-      becomes (turned (fieldsOf s) n k g) ok all refl refl
+      becomes (turned (fieldsOf s) n k g) ok all refl refl refl refl
       (swapped-shape (fieldsOf s) (of-buffer s fit) n k g shape inner below goal a b)
       (swapped-seen (fieldsOf s) (of-buffer s fit) n k g a b) sound
   turn-becomes k g (inr (a, b)) goal sound =
@@ -263,7 +267,7 @@ module _ (s : List ℕ) (ok : Sound s) (n : ℕ) (inner : 1 ≤ n) (below : n < 
       let all : Wrote s (moveB s n k g) (focusTo g (windF (fieldsOf s) n k)) =
       rw (kind-wind (kindN (nodeOf s n)) _ _ _ _ (rw (node-in s n in-room) at a))
       (subst (λ (f : Fields). Wrote s (withFocus (withNode s n (turnN (nodeOf s n) k)) g) (focusTo g f)) (w .fields) (then w (wrote-focus (withNode s n (turnN (nodeOf s n) k)) g fit′))) in
-      becomes (turned (fieldsOf s) n k g) ok all refl refl
+      becomes (turned (fieldsOf s) n k g) ok all refl refl refl refl
       (wound-shape (fieldsOf s) (of-buffer s fit) n k g shape inner below goal a b)
       (wound-seen (fieldsOf s) (of-buffer s fit) n k g a b) sound
 
@@ -283,7 +287,7 @@ out-entered _ wind-out h = (inr (omega arith, omega arith), refl)
 out-entered _ wind-in h = clash refl h
 
 -- ---- the two moves
-module _ (s : List ℕ) (ok : Sound s) where
+module _ (s : List ℕ) (ok : Whole s) where
   abbrev seen : store.Store
   seen = view s
 

@@ -15,19 +15,20 @@ use Rattle.rules.specs.Tree.{blank, top}
 use Rattle.rules.specs.Values.{unbound}
 use Rattle.rules.specs.Store.{home}
 use Rattle.rules.specs.Calls.{valueAt, openWhat, opened, open-values}
-use Rattle.layout.specs.Limits.{sizeOf}
+use Rattle.layout.specs.Limits.{noneN, sizeOf}
 use Rattle.layout.specs.Opening.{OpenFits, topCells}
-use Rattle.layout.specs.Records.{vars, room, made, focus, ProperCell, bareC, topC, kindN, storedN, depthN, topNode, blankNode}
+use Rattle.layout.specs.Records.{vars, room, made, focus, target, handed, ProperCell, bareC, topC, kindN, storedN, depthN, topNode, blankNode}
 use Rattle.layout.specs.Kinds.{isIn}
 use Rattle.layout.specs.Fields.{cells, nodes, fieldsOf, past}
-use Rattle.layout.specs.View.{asCell, whatN, upN, treeF, viewF, view}
-use Rattle.layout.specs.Sound.{Shape, Sound}
+use Rattle.layout.specs.View.{asCell, whatN, upN, treeF, viewF, view, walkOf}
+use Rattle.layout.specs.Sound.{Shape, Whole, Sound}
 use Rattle.layout.specs.Made.{IsMade}
 use Rattle.layout.specs.Writes.{openB}
 use Rattle.layout.specs.laws.Laws.{node-in, node-past, cell-in, cell-past, of-buffer}
 use Rattle.layout.specs.laws.RecordLaws.{bare-length, bare-whole, as-blank}
-use Rattle.layout.specs.laws.PlaceLaws.{opened-vars, opened-room, opened-made, opened-focus, opened-size, opened-cell, opened-top, opened-blank}
+use Rattle.layout.specs.laws.PlaceLaws.{opened-vars, opened-room, opened-made, opened-focus, opened-target, opened-handed, opened-size, opened-cell, opened-top, opened-blank}
 use Rattle.layout.specs.laws.SoundLaws.{what-top, what-blank, up-top, up-blank, in-top, in-blank, depth-top, depth-blank, shape-by-numbers, modes-by-numbers, headed-fit}
+use Rattle.layout.specs.laws.StrideLaws.{no-target, no-walk}
 
 -- ---- an opened store t, with the bytes `rest` past its size
 pub record Opens (v n : ℕ) (tops rest t : List ℕ) : Type 0 where
@@ -38,6 +39,7 @@ pub record Opens (v n : ℕ) (tops rest t : List ℕ) : Type 0 where
   pub focus : focus t ≡ 0
   pub values : (a x : ℕ) → x < v → valueAt (home (view t)) a x ≡ asCell (topC tops x)
   pub seen : view t ≡ opened (λ m. 0) (topCells v tops)
+  pub walk : walkOf t ≡ none
   pub past : past t ≡ rest
   pub long : length t ≡ sizeOf v n + length rest
 
@@ -65,6 +67,12 @@ module _ (v n : ℕ) (tops rest : List ℕ) (ok : OpenFits v n tops) where
 
   focus-is : focus t ≡ 0
   focus-is = opened-focus v n tops rest
+
+  target-is : target t ≡ noneN
+  target-is = opened-target v n tops rest
+
+  handed-is : handed t ≡ noneN
+  handed-is = opened-handed v n tops rest
 
   size-is : length (openB v n tops) ≡ sizeOf v n
   size-is = opened-size v n tops rest (ok .room-low)
@@ -150,9 +158,9 @@ module _ (v n : ℕ) (tops rest : List ℕ) (ok : OpenFits v n tops) where
         })
         cell-proper top-node (λ m l h. absurd (omega (arith, made-is))) (λ m l h. blank-node m (omega (arith, made-is)))
 
-    sound-is : Sound t
+    whole-is : Whole t
     unfolding fieldsOf
-    sound-is = record {
+    whole-is = record {
       long = long;
       fields = record {
         shape = shape;
@@ -161,15 +169,16 @@ module _ (v n : ℕ) (tops rest : List ℕ) (ok : OpenFits v n tops) where
     }
 
     pub opens : Opens v n tops rest (openB v n tops ++ rest)
-    unfolding past
+    unfolding past walkOf fieldsOf
     opens = record {
-      sound = sound-is;
+      sound = record { whole = whole-is; walk = no-walk (fieldsOf t) target-is handed-is };
       vars = vars-is;
       room = room-is;
       only-top = only-top-is;
       focus = focus-is;
       values = values-are;
       seen = seen-is;
+      walk = no-target (fieldsOf t) target-is;
       past = rw (vars-is, room-is) (drop-at (openB v n tops) rest (sizeOf v n) size-is);
       long = length-append (openB v n tops) rest ∙ ap (λ (k : ℕ). k + length rest) size-is;
     }

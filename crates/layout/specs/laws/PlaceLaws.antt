@@ -1,5 +1,5 @@
 -- Where the records are found in a buffer that is written, looked through or compared whole. With Laws (one record written), RecordLaws
--- (the fields of a record), Records and Limits, this is all that knows places. Assumes nothing.
+-- (the fields of a record), ByteLaws (what is written is bytes), Records and Limits, this is all that knows places. Assumes nothing.
 use mathlib.Core.Path.{_≡_, refl, sym, ap, _∙_}
 use Prim.Native.Nat.{ℕ, zero, suc, _+_, _-_, _*_, _/_, _%_, _≤_, _<_}
 use native.Mathlib.Omega.{arith}
@@ -8,9 +8,9 @@ use native.Mathlib.Decide.{decLt}
 use mathlib.Core.List.{List, [], _++_, append-assoc}
 use lib.ListN.{length, getD, drop, replicate, take-append-drop, length-append, length-replicate, getD-replicate}
 use lib.Seq.{ext-getD, take-all, take-at, drop-at, drop-drop}
-use Rattle.layout.specs.Limits.{header, cellSize, nodeSize, cellAt, nodeAt, sizeOf}
+use Rattle.layout.specs.Limits.{noneN, header, cellSize, nodeSize, cellAt, nodeAt, sizeOf}
 use Rattle.layout.specs.Bytes.{part, splice, u16, put16, part-length, part-at, part-left, part-right, part-bytes, splice-same, splice-again, splice-next, put16-length, Zeros, zeros-list, list-zeros, BytesTo}
-use Rattle.layout.specs.Records.{headOf, headN, withHead, headB, vars, room, made, focus, withHeader, cellOf, withCell, withCells, wholeC, topC, nodeOf, withNodes, topNode, blankNode}
+use Rattle.layout.specs.Records.{headOf, headN, withHead, headB, vars, room, made, focus, target, handed, withHeader, cellOf, withCell, withCells, wholeC, topC, nodeOf, withNodes, topNode, blankNode}
 use Rattle.layout.specs.Fields.{cells, nodes, Fit}
 use Rattle.layout.specs.Writes.{cellsB, nodesB, openB}
 use Rattle.layout.specs.laws.RecordLaws.{head-put, head-again, cell-length}
@@ -23,18 +23,23 @@ number-put s h k v l f =
     splice-again s h 0 header l f (put16 (part (splice s 0 header h) 0 header) (2 * k) v)
     ∙ ap (λ (p : List ℕ). splice s 0 header (put16 p (2 * k) v)) (splice-same s h 0 header l f)
 
-pub header-put : (s : List ℕ) (v n m f : ℕ) → header ≤ length s → withHead (withHead (withHead (withHead s 0 v) 1 n) 2 m) 3 f ≡ withHeader s (headB v n m f)
+-- t is s with the header h
+pub record HeadedBy (s h t : List ℕ) : Type 0 where
+  pub is : t ≡ withHeader s h
+  pub long : length h ≡ header
+
+number-more : {s h t : List ℕ} (k v : ℕ) → header ≤ length s → HeadedBy s h t → HeadedBy s (put16 h (2 * k) v) (withHead t k v)
+number-more {s} {h} k v f b =
+    record { is = ap (λ (u : List ℕ). withHead u k v) (b .is) ∙ number-put s h k v (b .long) f; long = put16-length h (2 * k) v ∙ b .long }
+
+pub header-put : (s : List ℕ) (v n m f a c : ℕ) → header ≤ length s
+    → withHead (withHead (withHead (withHead (withHead (withHead s 0 v) 1 n) 2 m) 3 f) 4 a) 5 c ≡ withHeader s (headB v n m f a c)
 unfolding withHead withHeader headOf
-header-put s v n m f long =
-    let p : List ℕ = headOf s in
-    let l : length p ≡ header = part-length s 0 header long in
-    let l₁ : length (put16 p 0 v) ≡ header = put16-length p 0 v ∙ l in
-    let l₂ : length (put16 (put16 p 0 v) 2 n) ≡ header = put16-length (put16 p 0 v) 2 n ∙ l₁ in
-    let l₃ : length (put16 (put16 (put16 p 0 v) 2 n) 4 m) ≡ header = put16-length (put16 (put16 p 0 v) 2 n) 4 m ∙ l₂ in
-    ap (λ (t : List ℕ). withHead (withHead t 2 m) 3 f) (number-put s (put16 p 0 v) 1 n l₁ long)
-    ∙ ap (λ (t : List ℕ). withHead t 3 f) (number-put s (put16 (put16 p 0 v) 2 n) 2 m l₂ long)
-    ∙ number-put s (put16 (put16 (put16 p 0 v) 2 n) 4 m) 3 f l₃ long
-    ∙ ap (withHeader s) (head-put v n m f p l)
+header-put s v n m f a c long =
+    let l : length (headOf s) ≡ header = part-length s 0 header long in
+    let first : HeadedBy s (put16 (headOf s) 0 v) (withHead s 0 v) = record { is = refl; long = put16-length (headOf s) 0 v ∙ l } in
+    let all = number-more 5 c long (number-more 4 a long (number-more 3 f long (number-more 2 m long (number-more 1 n long first)))) in
+    all .is ∙ ap (withHeader s) (head-put v n m f a c (headOf s) l)
 
 -- ---- the cells, one by one: none, and one more
 pub cells-length : (v : ℕ) (tops : List ℕ) → length (cellsB v tops) ≡ cellSize * v
@@ -81,10 +86,10 @@ put-after l r ys a n e =
     ∙ ap (λ (d : List ℕ). l ++ (ys ++ drop n d)) (drop-at l r a e)
     ∙ sym (append-assoc l ys (drop n r))
 
-pub written : (s tops : List ℕ) (v n : ℕ) → withNodes (withCells (withHeader s (headB v n 1 0)) v (cellsB v tops)) v n (nodesB (nodeSize * n)) ≡ openB v n tops ++ drop (sizeOf v n) s
+pub written : (s tops : List ℕ) (v n : ℕ) → withNodes (withCells (withHeader s (headB v n 1 0 noneN noneN)) v (cellsB v tops)) v n (nodesB (nodeSize * n)) ≡ openB v n tops ++ drop (sizeOf v n) s
 unfolding withHeader withCells withNodes openB headB nodesB
 written s tops v n =
-    let h : List ℕ = headB v n 1 0 in
+    let h : List ℕ = headB v n 1 0 noneN noneN in
     let c : List ℕ = cellsB v tops in
     let long : length (h ++ c) ≡ header + cellSize * v = omega (arith, length-append h c, cells-length v tops) in
     let count : nodeSize * n - nodeSize ≡ nodeSize * (n - 1) = omega arith in
@@ -108,7 +113,7 @@ module _ (v n : ℕ) (tops rest : List ℕ) where
   abbrev t : List ℕ
   t = openB v n tops ++ rest
 
-  head-is : headOf t ≡ headB v n 1 0
+  head-is : headOf t ≡ headB v n 1 0 noneN noneN
   unfolding headOf part openB headB
   head-is = refl
 
@@ -128,6 +133,14 @@ module _ (v n : ℕ) (tops rest : List ℕ) where
   unfolding headN u16 headB
   opened-focus = ap (λ (h : List ℕ). u16 h 6) head-is
 
+  pub opened-target : target t ≡ noneN
+  unfolding headN u16 headB
+  opened-target = ap (λ (h : List ℕ). u16 h 8) head-is
+
+  pub opened-handed : handed t ≡ noneN
+  unfolding headN u16 headB
+  opened-handed = ap (λ (h : List ℕ). u16 h 10) head-is
+
   pub opened-size : 1 ≤ n → length (openB v n tops) ≡ sizeOf v n
   unfolding openB headB topNode
   opened-size low = simp (length-append, length-replicate) (omega (arith, cells-length v tops))
@@ -136,26 +149,26 @@ module _ (v n : ℕ) (tops rest : List ℕ) where
   abbrev blanks : List ℕ
   blanks = replicate (nodeSize * (n - 1)) 0 ++ rest
 
-  split : t ≡ (headB v n 1 0 ++ cellsB v tops) ++ (topNode ++ blanks)
+  split : t ≡ (headB v n 1 0 noneN noneN ++ cellsB v tops) ++ (topNode ++ blanks)
   unfolding openB
   split = simp append-assoc
 
   pub opened-cell : (x : ℕ) → x < v → cellOf t x ≡ wholeC (topC tops x)
   unfolding cellOf headB
   opened-cell x h =
-      ap (λ (l : List ℕ). part l (cellAt x) cellSize) (split ∙ append-assoc (headB v n 1 0) (cellsB v tops) (topNode ++ blanks))
-      ∙ part-right (headB v n 1 0) (cellsB v tops ++ (topNode ++ blanks)) (cellSize * x) cellSize
+      ap (λ (l : List ℕ). part l (cellAt x) cellSize) (split ∙ append-assoc (headB v n 1 0 noneN noneN) (cellsB v tops) (topNode ++ blanks))
+      ∙ part-right (headB v n 1 0 noneN noneN) (cellsB v tops ++ (topNode ++ blanks)) (cellSize * x) cellSize
       ∙ part-left (cellsB v tops) (topNode ++ blanks) (cellSize * x) cellSize (omega (arith, cells-length v tops))
       ∙ cells-at v tops x h
 
   node-at : (m : ℕ) → nodeOf t m ≡ part (topNode ++ blanks) (nodeSize * m) nodeSize
   unfolding nodeOf headB
   node-at m =
-      let long : length (headB v n 1 0 ++ cellsB v tops) + nodeSize * m ≡ nodeAt v m = omega (arith, length-append (headB v n 1 0) (cellsB v tops), cells-length v tops) in
+      let long : length (headB v n 1 0 noneN noneN ++ cellsB v tops) + nodeSize * m ≡ nodeAt v m = omega (arith, length-append (headB v n 1 0 noneN noneN) (cellsB v tops), cells-length v tops) in
       ap (λ (w : ℕ). part t (nodeAt w m) nodeSize) opened-vars
       ∙ ap (λ (l : List ℕ). part l (nodeAt v m) nodeSize) split
-      ∙ ap (λ (k : ℕ). part ((headB v n 1 0 ++ cellsB v tops) ++ (topNode ++ blanks)) k nodeSize) (sym long)
-      ∙ part-right (headB v n 1 0 ++ cellsB v tops) (topNode ++ blanks) (nodeSize * m) nodeSize
+      ∙ ap (λ (k : ℕ). part ((headB v n 1 0 noneN noneN ++ cellsB v tops) ++ (topNode ++ blanks)) k nodeSize) (sym long)
+      ∙ part-right (headB v n 1 0 noneN noneN ++ cellsB v tops) (topNode ++ blanks) (nodeSize * m) nodeSize
 
   pub opened-top : nodeOf t 0 ≡ topNode
   unfolding part topNode
@@ -175,7 +188,7 @@ module _ (v n : ℕ) (tops rest : List ℕ) where
 -- ---- a buffer of bytes, record by record
 module _ (s : List ℕ) (bytes : (i : ℕ) → getD s i 0 < 256) where
   -- the header is what its numbers say
-  pub head-said : header ≤ length s → headB (vars s) (room s) (made s) (focus s) ≡ headOf s
+  pub head-said : header ≤ length s → headB (vars s) (room s) (made s) (focus s) (target s) (handed s) ≡ headOf s
   unfolding headN headOf
   head-said h = head-again (headOf s) (part-length s 0 header h) (part-bytes s 0 header bytes)
 

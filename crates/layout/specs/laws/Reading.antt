@@ -21,7 +21,7 @@ use Rattle.layout.specs.Records.{vars, room, focus, blankCell, ProperCel
 use Rattle.layout.specs.Kinds.{within, byKind, isOut, IsBinding}
 use Rattle.layout.specs.Fields.{nodes, fieldsOf, Fit}
 use Rattle.layout.specs.View.{asCell, whatN, upN, treeF, viewF, view}
-use Rattle.layout.specs.Sound.{NodeOk, depthAbove, Sound}
+use Rattle.layout.specs.Sound.{NodeOk, depthAbove, Whole}
 use Rattle.layout.specs.Made.{IsMade}
 use Rattle.layout.specs.laws.Laws.{node-in, cell-in}
 use Rattle.layout.specs.laws.SoundLaws.{what-binding, up-node, up-top, sound-fit, sound-headed, sound-view, shape-inners}
@@ -91,7 +91,7 @@ unfolding storedN topNode
 stored-top = refl
 
 -- ---- the made nodes of a sound store
-module _ (s : List ℕ) (ok : Sound s) where
+module _ (s : List ℕ) (ok : Whole s) where
   pub fit-made : (n : ℕ) → IsMade s n → Fit s × (n < room s)
   fit-made n m = (sound-fit s ok, made-room s ok n m)
 
@@ -285,6 +285,6 @@ module _ (s : List ℕ) (ok : Sound s) where
   found-at {a} {x} {n} {c} by made e p = record { by = by; made = made; value = e ∙ ap (peekOf (view s) x) by ∙ peek-shows (view s) (sound-view s ok) a x; proper = p }
 
 -- the top has no parent
-pub top-up : (s : List ℕ) → Sound s → view s .tree .up 0 ≡ none
+pub top-up : (s : List ℕ) → Whole s → view s .tree .up 0 ≡ none
 unfolding view viewF treeF fieldsOf
 top-up s ok = ap upN (ok .fields .shape .top) ∙ up-top

@@ -152,14 +152,17 @@ unfolding asCell valueC
 as-value v h = ap (λ (n : ℕ). value (toZ w32 n)) (bits-value v h) ∙ ap value (toZ-ofZ w32 v h)
 
 -- ---- a header
-pub head-length : (v n m f : ℕ) → length (headB v n m f) ≡ header
+pub head-length : (v n m f a c : ℕ) → length (headB v n m f a c) ≡ header
 unfolding headB
-head-length v n m f = refl
+head-length v n m f a c = refl
 
--- its four numbers written over eight bytes
-pub head-put : (v n m f : ℕ) (p : List ℕ) → length p ≡ header → put16 (put16 (put16 (put16 p 0 v) 2 n) 4 m) 6 f ≡ headB v n m f
+-- its numbers written over as many bytes
+abbrev pub puts : List ℕ → ℕ → ℕ → ℕ → ℕ → ℕ → ℕ → List ℕ
+puts p v n m f a c = put16 (put16 (put16 (put16 (put16 (put16 p 0 v) 2 n) 4 m) 6 f) 8 a) 10 c
+
+pub head-put : (v n m f a c : ℕ) (p : List ℕ) → length p ≡ header → puts p v n m f a c ≡ headB v n m f a c
 unfolding put16 headB
-head-put v n m f = by-tab header (λ p. put16 (put16 (put16 (put16 p 0 v) 2 n) 4 m) 6 f ≡ headB v n m f) (λ g. refl)
+head-put v n m f a c = by-tab header (λ p. puts p v n m f a c ≡ headB v n m f a c) (λ g. refl)
 
 -- ---- the top: kind 1, and zero behind it
 pub top-bytes : (p : List ℕ) → length p ≡ nodeSize → kindN p ≡ 1 → drop 1 p ≡ replicate (length (drop 1 p)) 0 → p ≡ topNode
@@ -182,13 +185,15 @@ low a b h = omega arith
 high : (a b : ℕ) → a < 256 → (a + 256 * b) / 256 ≡ b
 high a b h = omega arith
 
-pub head-again : (p : List ℕ) → length p ≡ header → BytesTo header p → headB (u16 p 0) (u16 p 2) (u16 p 4) (u16 p 6) ≡ p
+pub head-again : (p : List ℕ) → length p ≡ header → BytesTo header p → headB (u16 p 0) (u16 p 2) (u16 p 4) (u16 p 6) (u16 p 8) (u16 p 10) ≡ p
 unfolding headB u16
-head-again = by-tab header (λ p. BytesTo header p → headB (u16 p 0) (u16 p 2) (u16 p 4) (u16 p 6) ≡ p) λ f b. λ i.
+head-again = by-tab header (λ p. BytesTo header p → headB (u16 p 0) (u16 p 2) (u16 p 4) (u16 p 6) (u16 p 8) (u16 p 10) ≡ p) λ f b. λ i.
     low (f 0) (f 1) (b 0 (omega arith)) i ∷ high (f 0) (f 1) (b 0 (omega arith)) i ∷
     low (f 2) (f 3) (b 2 (omega arith)) i ∷ high (f 2) (f 3) (b 2 (omega arith)) i ∷
     low (f 4) (f 5) (b 4 (omega arith)) i ∷ high (f 4) (f 5) (b 4 (omega arith)) i ∷
-    low (f 6) (f 7) (b 6 (omega arith)) i ∷ high (f 6) (f 7) (b 6 (omega arith)) i ∷ []
+    low (f 6) (f 7) (b 6 (omega arith)) i ∷ high (f 6) (f 7) (b 6 (omega arith)) i ∷
+    low (f 8) (f 9) (b 8 (omega arith)) i ∷ high (f 8) (f 9) (b 8 (omega arith)) i ∷
+    low (f 10) (f 11) (b 10 (omega arith)) i ∷ high (f 10) (f 11) (b 10 (omega arith)) i ∷ []
 
 pub node-again : (p : List ℕ) → length p ≡ nodeSize → BytesTo nodeSize p → nodeB (kindN p) (parentN p) (varN p) (postN p) (storedN p) (depthN p) ≡ p
 unfolding nodeB kindN parentN varN postN storedN depthN u16

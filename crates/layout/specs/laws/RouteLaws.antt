@@ -21,7 +21,7 @@ use Rattle.layout.specs.Records.{made, focus, kindN, parentN, varN, post
 use Rattle.layout.specs.Kinds.{byKind, within, isOut, IsWind}
 use Rattle.layout.specs.Fields.{fieldsOf, nodes}
 use Rattle.layout.specs.View.{whatN, treeF, viewF, view}
-use Rattle.layout.specs.Sound.{Sound}
+use Rattle.layout.specs.Sound.{Whole}
 use Rattle.layout.specs.Made.{IsMade}
 use Rattle.layout.specs.laws.Laws.{node-in, of-buffer}
 use Rattle.layout.specs.laws.SoundLaws.{sound-fit, sound-view, depth-few}
@@ -164,17 +164,31 @@ within-high lo k hi e = go (leb lo k) e
     go false h = clash h refl
 
 -- a record of a kind that is no wind's has no events
-pub plain : (p : List ℕ) → (IsWind (kindN p) → ⊥) → isWind (whatN p) ≡ 0
+wind-or-plain : (p : List ℕ) → IsWind (kindN p) ⊎ (isWind (whatN p) ≡ 0)
 unfolding whatN byKind
-plain p h = go (within 2 (kindN p) 3) (within 4 (kindN p) 5) refl (eqb (kindN p) 1)
+wind-or-plain p = go (within 2 (kindN p) 3) (within 4 (kindN p) 5) refl (eqb (kindN p) 1)
   where
-    go : (b w : Bool) → within 4 (kindN p) 5 ≡ w → (o : Bool) → isWind (cond b (binding (varN p)) (cond w (wind (varN p) (postN p)) (cond o top blank))) ≡ 0
-    go true w e o = refl
-    go false true e o = absurd (h (within-low 4 (kindN p) 5 e, within-high 4 (kindN p) 5 e))
-    go false false e true = refl
-    go false false e false = refl
+    go : (b w : Bool) → within 4 (kindN p) 5 ≡ w → (o : Bool) → IsWind (kindN p) ⊎ (isWind (cond b (binding (varN p)) (cond w (wind (varN p) (postN p)) (cond o top blank))) ≡ 0)
+    go true w e o = inr refl
+    go false true e o = inl (within-low 4 (kindN p) 5 e, within-high 4 (kindN p) 5 e)
+    go false false e true = inr refl
+    go false false e false = inr refl
 
-module _ (s : List ℕ) (ok : Sound s) where
+pub plain : (p : List ℕ) → (IsWind (kindN p) → ⊥) → isWind (whatN p) ≡ 0
+plain p h = go (wind-or-plain p)
+  where
+    go : IsWind (kindN p) ⊎ (isWind (whatN p) ≡ 0) → isWind (whatN p) ≡ 0
+    go (inl is) = absurd (h is)
+    go (inr e) = e
+
+pub wind-kind : (p : List ℕ) → isWind (whatN p) ≡ 1 → IsWind (kindN p)
+wind-kind p e = go (wind-or-plain p)
+  where
+    go : IsWind (kindN p) ⊎ (isWind (whatN p) ≡ 0) → IsWind (kindN p)
+    go (inl is) = is
+    go (inr z) = absurd (omega (arith, z, e))
+
+module _ (s : List ℕ) (ok : Whole s) where
   abbrev t : Tree
   t = view s .tree
 
@@ -186,7 +200,7 @@ module _ (s : List ℕ) (ok : Sound s) where
   what-node n h = ap whatN (node-in s n (made-room s ok n h))
 
   -- a node that is out is not on the focus's way
-  out-off : (c : ℕ) → IsMade s c → isOut (kindN (records.nodeOf s c)) ≡ true → on c (path t (focus s)) ≡ false
+  pub out-off : (c : ℕ) → IsMade s c → isOut (kindN (records.nodeOf s c)) ≡ true → on c (path t (focus s)) ≡ false
   out-off c h out = rw (seen-focus s ok) at (sym (sound-view s ok .modes c) ∙ out-up s ok c h out .1)
 
   -- any other is the meeting point of its own way

@@ -21,11 +21,11 @@ use Rattle.rules.specs.Meaning.{home-means}
 use Rattle.rules.specs.Effects.{SameDeep}
 use Rattle.layout.specs.Limits.{cellSize, nodeSize, sizeOf}
 use Rattle.layout.specs.Bytes.{part, Bytes, BytesTo}
-use Rattle.layout.specs.Records.{headOf, headB, vars, room, made, focus, cellOf, bareC, wholeC, nodeOf, kindN, parentN, varN, postN, storedN, depthN, nodeB}
+use Rattle.layout.specs.Records.{headOf, headB, vars, room, made, focus, target, handed, cellOf, bareC, wholeC, nodeOf, kindN, parentN, varN, postN, storedN, depthN, nodeB}
 use Rattle.layout.specs.Kinds.{isIn, Node, binding-out, binding-in, wind-out, wind-in, node-kind, IsBinding, IsWind, IsNode}
 use Rattle.layout.specs.Fields.{cells, nodes, fieldsOf, past}
-use Rattle.layout.specs.View.{asCell, whatN, upN, treeF, viewF, view}
-use Rattle.layout.specs.Sound.{NodeOk, depthAbove, Sound}
+use Rattle.layout.specs.View.{asCell, whatN, upN, treeF, viewF, view, walkF, walkOf}
+use Rattle.layout.specs.Sound.{NodeOk, depthAbove, Whole, Sound}
 use Rattle.layout.specs.Events.{bit}
 use Rattle.layout.specs.Made.{IsMade}
 use Rattle.layout.specs.Becomes.{Becomes}
@@ -112,7 +112,7 @@ module _ (v n d e : ℕ) (p q : List ℕ) (op : NodeOk v n d p) (oq : NodeOk v n
 
 -- ---- two sound buffers that are seen alike
 -- as many environments are made
-made-once : (s t : List ℕ) → Sound s → Sound t → ((a : ℕ) → view s .tree .what a ≡ view t .tree .what a) → made s ≡ made t
+made-once : (s t : List ℕ) → Whole s → Whole t → ((a : ℕ) → view s .tree .what a ≡ view t .tree .what a) → made s ≡ made t
 unfolding IsMade
 made-once s t ok ok′ kinds = go (decLt (made s) (made t)) (decLt (made t) (made s))
   where
@@ -121,7 +121,8 @@ made-once s t ok ok′ kinds = go (decLt (made s) (made t)) (decLt (made t) (mad
     go (no k) (yes l) = absurd (omega (arith, seen-made t ok′ (made t) (λ e. made-seen s ok (made t) l (kinds (made t) ∙ e))))
     go (no k) (no l) = omega arith
 
-module _ (s t : List ℕ) (ok : Sound s) (ok′ : Sound t) (bytes : Bytes s) (bytes′ : Bytes t) (v : vars s ≡ vars t) (r : room s ≡ room t) (same : view s ≡ view t) where
+module _ (s t : List ℕ) (ok : Whole s) (ok′ : Whole t) (bytes : Bytes s) (bytes′ : Bytes t) (v : vars s ≡ vars t) (r : room s ≡ room t)
+    (a : target s ≡ target t) (c : handed s ≡ handed t) (same : view s ≡ view t) where
   makes : made s ≡ made t
   makes = made-once s t ok ok′ (λ a. ap (λ (w : store.Store). w .tree .what a) same)
 
@@ -131,7 +132,7 @@ module _ (s t : List ℕ) (ok : Sound s) (ok′ : Sound t) (bytes : Bytes s) (by
 
   -- the header
   heads : headOf s ≡ headOf t
-  heads = sym (head-said s bytes (omega (arith, ok .long))) ∙ (λ i. headB (v i) (r i) (makes i) (focuses i)) ∙ head-said t bytes′ (omega (arith, ok′ .long))
+  heads = sym (head-said s bytes (omega (arith, ok .long))) ∙ (λ i. headB (v i) (r i) (makes i) (focuses i) (a i) (c i)) ∙ head-said t bytes′ (omega (arith, ok′ .long))
 
   -- a cell
   same-cell : (x : ℕ) → x < vars s → cellOf s x ≡ cellOf t x
@@ -187,9 +188,10 @@ same-whole s t v r e q =
 -- what is left of s in place of w is one buffer
 pub becomes-one : {s t t′ : List ℕ} {w : store.Store} → Bytes t → Bytes t′ → Becomes s t w → Becomes s t′ w → t ≡ t′
 becomes-one {s} {t} {t′} b b′ h k =
-    let v : vars t ≡ vars t′ = h .kept .vars ∙ sym (k .kept .vars) in
-    let r : room t ≡ room t′ = h .kept .room ∙ sym (k .kept .room) in
-    same-whole t t′ v r (same-seen t t′ (h .sound) (k .sound) b b′ v r (h .seen ∙ sym (k .seen))) (h .kept .past ∙ sym (k .kept .past))
+    let v : vars t ≡ vars t′ = h .kept .size .vars ∙ sym (k .kept .size .vars) in
+    let r : room t ≡ room t′ = h .kept .size .room ∙ sym (k .kept .size .room) in
+    same-whole t t′ v r (same-seen t t′ (h .sound) (k .sound) b b′ v r (h .kept .target ∙ sym (k .kept .target)) (h .kept .handed ∙ sym (k .kept .handed)) (h .seen ∙ sym (k .seen)))
+    (h .kept .size .past ∙ sym (k .kept .size .past))
 
 -- ---- what a store holds besides its meaning is blank
 -- a binding's own value is its variable's at itself
@@ -197,7 +199,7 @@ pub own-value : (d : store.Deep) → Proper (d .tree) → (n x p : ℕ) → d .t
 unfolding valueAt deciderAt
 own-value d proper n x p b u = rw (path-up (d .tree) proper n p u, b, eqb-self x)
 
-module _ (s : List ℕ) (ok : Sound s) where
+module _ (s : List ℕ) (ok : Whole s) where
   -- a binding has a parent
   pub binding-up : (n x : ℕ) → view s .tree .what n ≡ binding x → (p : ℕ) × (view s .tree .up n ≡ some p)
   unfolding view viewF treeF fieldsOf
@@ -228,7 +230,7 @@ module _ (s : List ℕ) (ok : Sound s) where
 
 -- ---- two sound buffers that mean the same are seen alike: the meaning says the cells and what each binding stores, no
 -- other node stores anything, and the modes follow from the focus
-module _ (s t : List ℕ) (ok : Sound s) (ok′ : Sound t) (same : SameDeep (home (view s)) (home (view t))) where
+module _ (s t : List ℕ) (ok : Whole s) (ok′ : Whole t) (same : SameDeep (home (view s)) (home (view t))) where
   trees : view s .tree ≡ view t .tree
   unfolding home view viewF treeF
   trees = λ i. record {
@@ -291,9 +293,9 @@ module _ (s t : List ℕ) (ok : Sound s) (ok′ : Sound t) (same : SameDeep (hom
   }
 
 -- the same meaning, so the same bytes up to the size
-pub same-meant : (s t : List ℕ) → Sound s → Sound t → Bytes s → Bytes t → vars s ≡ vars t → room s ≡ room t → SameDeep (home (view s)) (home (view t))
+pub same-meant : (s t : List ℕ) → Whole s → Whole t → Bytes s → Bytes t → vars s ≡ vars t → room s ≡ room t → target s ≡ target t → handed s ≡ handed t → SameDeep (home (view s)) (home (view t))
     → take (sizeOf (vars s) (room s)) s ≡ take (sizeOf (vars s) (room s)) t
-same-meant s t ok ok′ b b′ v r same = same-seen s t ok ok′ b b′ v r (seen-once s t ok ok′ same)
+same-meant s t ok ok′ b b′ v r a c same = same-seen s t ok ok′ b b′ v r a c (seen-once s t ok ok′ same)
 
 -- ---- two buffers that agree up to the size: no byte past it is read
 take-part : (a z : ℕ) (xs : List ℕ) (n : ℕ) → a + n ≤ z → take n (drop a (take z xs)) ≡ take n (drop a xs)
@@ -343,11 +345,18 @@ module _ (s u : List ℕ) (agree : AgreeTo s u) where
   unfolding view
   agree-view = ap viewF agree-fields
 
-  pub agree-sound : Sound s → Sound u
-  agree-sound ok = record {
+  agree-whole : Whole s → Whole u
+  agree-whole ok = record {
     long = omega (arith, agree-vars, agree-room, ok .long, length-take (sizeOf (vars s) (room s)) s, length-take (sizeOf (vars s) (room s)) u, ap length agree);
     fields = rw (← agree-fields) (ok .fields);
   }
+
+  pub agree-sound : Sound s → Sound u
+  agree-sound ok = record { whole = agree-whole (ok .whole); walk = rw (← agree-fields) (ok .walk) }
+
+  pub agree-walk : walkOf s ≡ walkOf u
+  unfolding walkOf
+  agree-walk = ap walkF agree-fields
 
   pub agree-back : AgreeTo u s
   agree-back = sym (rw (agree-vars, agree-room) at agree)

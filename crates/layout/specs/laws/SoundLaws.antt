@@ -2,24 +2,22 @@
 -- parent being below its own number. Assumes nothing.
 use mathlib.Core.Path.{_≡_, refl, sym, ap, _∙_}
 use mathlib.Core.Logic.{_≢_, _⊎_, inl, inr}
-use mathlib.Core.Bool.{Bool, true, false}
+use mathlib.Core.Bool.{true, false}
 use mathlib.Core.Option.{Option, none, some}
-use Prim.Native.Nat.{ℕ, zero, suc, _≤_, _<_}
+use Prim.Native.Nat.{ℕ, suc, _≤_, _<_}
 use native.Mathlib.Omega.{arith}
 use native.Mathlib.Decide.{ℕ-discrete, decLt}
 use mathlib.Core.List.{List}
-use lib.ListN.{length}
 use Rattle.rules.specs.Basic.{on, clash, some≢none}
-use Rattle.rules.specs.Tree.{What, blank, top, binding, wind, Tree, Proper, Ranked, path, path-once, on-path-up, rank-depth}
+use Rattle.rules.specs.Tree.{blank, top, binding, wind, Proper, Ranked, path, path-once, on-path-up, rank-depth}
 use Rattle.rules.specs.Modes.{count-on, count-le}
 use Rattle.rules.specs.Store as store
-use Rattle.layout.specs.Limits.{sizeOf}
 use Rattle.layout.specs.Bytes.{u16}
-use Rattle.layout.specs.Records.{vars, room, made, focus, kindN, parentN, varN, postN, depthN, topNode, blankNode}
+use Rattle.layout.specs.Records.{kindN, parentN, varN, postN, depthN, topNode, blankNode}
 use Rattle.layout.specs.Kinds.{IsBinding, IsWind, IsNode, byKind, isIn, isOut, kind-binding, kind-wind, kind-node}
 use Rattle.layout.specs.Fields.{Fields, fieldsOf, Fit, roomF, madeF, focusF, varsF}
 use Rattle.layout.specs.View.{whatN, upN, treeF, viewF, view}
-use Rattle.layout.specs.Sound.{NodeOk, depthAbove, HeadOk, CellsOk, Shape, Ins, SoundF, Headed, Sound}
+use Rattle.layout.specs.Sound.{NodeOk, depthAbove, HeadOk, CellsOk, Shape, Ins, SoundF, Headed, Whole}
 use Rattle.layout.specs.laws.Laws.{OfBuffer, of-buffer}
 
 -- ---- what a node's record says
@@ -240,17 +238,17 @@ seen-sound f buffer ok = record {
 pub headed-fit : (s : List ℕ) → Headed s → Fit s
 headed-fit s h = record { v = h .head .vars-high; n = h .head .room-high; long = h .long }
 
-pub sound-headed : (s : List ℕ) → Sound s → Headed s
+pub sound-headed : (s : List ℕ) → Whole s → Headed s
 unfolding fieldsOf
 sound-headed s h = record { long = h .long; head = h .fields .shape .head }
 
-pub sound-fit : (s : List ℕ) → Sound s → Fit s
+pub sound-fit : (s : List ℕ) → Whole s → Fit s
 sound-fit s h = headed-fit s (sound-headed s h)
 
-pub sound-view : (s : List ℕ) → Sound s → store.Sound (view s)
+pub sound-view : (s : List ℕ) → Whole s → store.Sound (view s)
 unfolding view
 sound-view s h = seen-sound (fieldsOf s) (of-buffer s (sound-fit s h)) (h .fields)
 
-pub sound-ranked : (s : List ℕ) → Sound s → Ranked (view s .tree)
+pub sound-ranked : (s : List ℕ) → Whole s → Ranked (view s .tree)
 unfolding view viewF
 sound-ranked s h = shape-ranked (fieldsOf s) (of-buffer s (sound-fit s h)) (h .fields .shape)

@@ -17,7 +17,7 @@ use Rattle.layout.specs.Records.{focus, nodeOf, kindN, parentN, varN, po
 use Rattle.layout.specs.Fields.{fieldsOf}
 use Rattle.layout.specs.Kinds.{IsWind}
 use Rattle.layout.specs.View.{upN, treeF, viewF, view}
-use Rattle.layout.specs.Sound.{Sound}
+use Rattle.layout.specs.Sound.{Whole}
 use Rattle.layout.specs.Events.{eventD, told, eventsFrom, eventsTo}
 use Rattle.layout.specs.Made.{IsMade}
 use Rattle.layout.specs.laws.Laws.{node-in}
@@ -43,16 +43,16 @@ pub record Leaving (s : List ℕ) (m g e : ℕ) (t₀ t : List ℕ) : Type 0 whe
   pub count : e ≡ length front
   pub bytes : t ≡ toldAt 0 front t₀
 
-module _ (s : List ℕ) (ok : Sound s) where
+module _ (s : List ℕ) (ok : Whole s) where
   abbrev t : Tree
   t = view s .tree
 
   module _ (n : ℕ) (made : IsMade s n) where
-    parent : IsWind (kindN (nodeOf s n)) → t .up n ≡ some (parentN (nodeOf s n))
+    pub parent : IsWind (kindN (nodeOf s n)) → t .up n ≡ some (parentN (nodeOf s n))
     unfolding view viewF treeF fieldsOf
     parent is = ap upN (node-in s n (made-room s ok n made)) ∙ up-node (nodeOf s n) (inr is)
 
-    left-wind : IsWind (kindN (nodeOf s n)) → leftEvents s n ≡ record { entering = false; thunk = postN (nodeOf s n); place = parentN (nodeOf s n) } ∷ []
+    pub left-wind : IsWind (kindN (nodeOf s n)) → leftEvents s n ≡ record { entering = false; thunk = postN (nodeOf s n); place = parentN (nodeOf s n) } ∷ []
     left-wind is =
         ap (λ (w : What). windEvent false w (orTop (t .up n))) (what-node s ok n made ∙ what-wind (nodeOf s n) is)
         ∙ ap (λ (o : Option ℕ). windEvent false (wind (varN (nodeOf s n)) (postN (nodeOf s n))) (orTop o)) (parent is)
@@ -60,7 +60,7 @@ module _ (s : List ℕ) (ok : Sound s) where
     left-none : (IsWind (kindN (nodeOf s n)) → ⊥) → leftEvents s n ≡ []
     left-none h = no-wind false (t .what n) (orTop (t .up n)) (ap isWind (what-node s ok n made) ∙ plain (nodeOf s n) h)
 
-    entered-wind : IsWind (kindN (nodeOf s n)) → enteredEvents s n ≡ record { entering = true; thunk = varN (nodeOf s n); place = parentN (nodeOf s n) } ∷ []
+    pub entered-wind : IsWind (kindN (nodeOf s n)) → enteredEvents s n ≡ record { entering = true; thunk = varN (nodeOf s n); place = parentN (nodeOf s n) } ∷ []
     entered-wind is =
         ap (λ (w : What). windEvent true w (orTop (t .up n))) (what-node s ok n made ∙ what-wind (nodeOf s n) is)
         ∙ ap (λ (o : Option ℕ). windEvent true (wind (varN (nodeOf s n)) (postN (nodeOf s n))) (orTop o)) (parent is)

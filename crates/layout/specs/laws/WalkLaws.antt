@@ -2,7 +2,7 @@
 -- what the calls of one way come to together. No place of the layout stands here. Assumes nothing.
 use mathlib.Core.Path.{_≡_, refl, sym, ap, _∙_}
 use mathlib.Core.Logic.{_≢_, _⊎_, inl, inr}
-use mathlib.Core.Bool.{true, false, not}
+use mathlib.Core.Bool.{true, false}
 use mathlib.Core.Option.{none, some}
 use Prim.Native.Nat.{ℕ, _<_}
 use native.Mathlib.Omega.{arith}
@@ -19,10 +19,10 @@ use Rattle.layout.specs.Records.{vars, room, made, focus, nodeOf, withNo
 use Rattle.layout.specs.Kinds.{isIn, isOut, kind-binding, kind-wind, node-kind, out-not-in, IsNode}
 use Rattle.layout.specs.Fields.{Fields, fieldsOf, nodes, Fit, varsF, roomF}
 use Rattle.layout.specs.View.{whatN, upN, treeF, viewF, view}
-use Rattle.layout.specs.Sound.{Sound}
+use Rattle.layout.specs.Sound.{Whole}
 use Rattle.layout.specs.Writes.{turnB, leaveB, enterB, Turns}
 use Rattle.layout.specs.Made.{IsMade}
-use Rattle.layout.specs.Becomes.{Kept, Becomes}
+use Rattle.layout.specs.Becomes.{Sized, Kept, Becomes}
 use Rattle.layout.specs.Routes.{movesTo}
 use Rattle.layout.specs.laws.Laws.{of-buffer, node-in, Wrote, wrote-node, wrote-fit, fields-vars, fields-room}
 use Rattle.layout.specs.laws.RecordLaws.{swap-length, turn-same, swap-same}
@@ -30,11 +30,17 @@ use Rattle.layout.specs.laws.SoundLaws.{Place, is-top, is-inner, is-blan
 use Rattle.layout.specs.laws.MoveLaws.{wrote-swap, wrote-wind, sound-turns, inner, leave-becomes, enter-becomes}
 
 -- ---- one after the other
+pub sized-self : (s : List ℕ) → Sized s s
+sized-self s = record { vars = refl; room = refl; long = refl; past = refl }
+
+pub sized-then : {s t u : List ℕ} → Sized s t → Sized t u → Sized s u
+sized-then a b = record { vars = b .vars ∙ a .vars; room = b .room ∙ a .room; long = b .long ∙ a .long; past = b .past ∙ a .past }
+
 pub kept-self : (s : List ℕ) → Kept s s
-kept-self s = record { vars = refl; room = refl; long = refl; past = refl }
+kept-self s = record { size = sized-self s; target = refl; handed = refl }
 
 pub kept-then : {s t u : List ℕ} → Kept s t → Kept t u → Kept s u
-kept-then a b = record { vars = b .vars ∙ a .vars; room = b .room ∙ a .room; long = b .long ∙ a .long; past = b .past ∙ a .past }
+kept-then a b = record { size = sized-then (a .size) (b .size); target = b .target ∙ a .target; handed = b .handed ∙ a .handed }
 
 pub becomes-then : {s t u : List ℕ} {v w x : store.Store} → Becomes s t v → Becomes t u w → w ≡ x → Becomes s u x
 becomes-then a b e = record { sound = b .sound; seen = b .seen ∙ e; kept = kept-then (a .kept) (b .kept) }
@@ -81,7 +87,7 @@ turned s n k h = go (h .node)
         (turned-from n (wrote-wind s n k (h .fit) (h .below)) refl refl (h .fit) (h .below)
         (ap parentN (upd-same (nodes s) n _) ∙ turn-same k (nodes s n) long .parent))
 
-module _ (s : List ℕ) (ok : Sound s) where
+module _ (s : List ℕ) (ok : Whole s) where
   abbrev seen : store.Store
   seen = view s
 
@@ -151,7 +157,7 @@ module _ (s : List ℕ) (ok : Sound s) where
   turns a p e = let (l, h, q, m) = inner s ok a p e in sound-turns s ok a l h
 
 -- ---- the walk's three ways; its measure is the distance that remains, `movesTo`
-module _ (s : List ℕ) (ok : Sound s) (a : ℕ) (made : IsMade s a) where
+module _ (s : List ℕ) (ok : Whole s) (a : ℕ) (made : IsMade s a) where
   -- the target is the focus
   pub way-here : a ≡ focus s → Becomes s s (goto a (view s))
   way-here e = record { sound = ok; seen = sym (rw (e, ← (seen-focus s ok)) (goto-here (view s) (sound-view s ok))); kept = kept-self s }
@@ -215,7 +221,7 @@ module _ (s : List ℕ) (ok : Sound s) (a : ℕ) (made : IsMade s a) where
       left-becomes : Becomes s t (store.leaveTo (above-focus .p) (view s))
       left-becomes = rw left (leave-becomes s ok (above-focus .p) (above-focus .up))
 
-      in-sound : Sound t
+      in-sound : Whole t
       in-sound = left-becomes .sound
 
       in-made : IsMade t a
@@ -241,8 +247,8 @@ pub data Nearer (s : List ℕ) (a : ℕ) (t : List ℕ) (to : ℕ) : Type 0 wher
 walked-focus : (t u : List ℕ) (to : ℕ) → Becomes t u (goto to (view t)) → focus u ≡ to
 walked-focus t u to w = sym (seen-focus u (w .sound)) ∙ ap (λ (v : store.Store). v .focus) (w .seen) ∙ goto-focus to (view t)
 
-module _ (s : List ℕ) (ok : Sound s) (a : ℕ) (made : IsMade s a) (d : a ≢ focus s) (t : List ℕ) (to : ℕ) where
-  pub near-sound : Nearer s a t to → Sound t
+module _ (s : List ℕ) (ok : Whole s) (a : ℕ) (made : IsMade s a) (d : a ≢ focus s) (t : List ℕ) (to : ℕ) where
+  pub near-sound : Nearer s a t to → Whole t
   near-sound (outward o e f) = rw f ok
   near-sound (inward i e f) = in-sound s ok a made d i t f
 

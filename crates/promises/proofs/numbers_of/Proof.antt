@@ -44,6 +44,12 @@ done-requires-4 c κs = search needs
 enum-known-a-5 : tie.Need-enum-known-a-5
 enum-known-a-5 c = search needs
 
+handing-requires : tie.Need-handing-requires
+handing-requires c κs = search needs
+
+enum-known-a-6 : tie.Need-enum-known-a-6
+enum-known-a-6 c = search needs
+
 number-of-requires : tie.Need-number-of-requires
 number-of-requires c κs = search needs
 
@@ -75,7 +81,11 @@ returns-5 c = c .done4 .ensures ∙ ap (λ (a : Answer). flat (numbers a)) (sym 
 
 returns-6 : tie.Need-returns-6
 unfolding flat numbers
-returns-6 c = c .refused .ensures ∙ ap (λ (k : ℕ). record { out = pos 0; code = k; moves = 0; events = 0; by = 0; decided = false }) (c .before .number-of .ensures) ∙ ap (λ (a : Answer). flat (numbers a)) (sym (c .before .before .before .a5 .given .1))
+returns-6 c = c .handing .ensures ∙ ap (λ (a : Answer). flat (numbers a)) (sym (c .before .before .a5 .given .1))
+
+returns-7 : tie.Need-returns-7
+unfolding flat numbers
+returns-7 c = c .refused .ensures ∙ ap (λ (k : ℕ). record { out = pos 0; code = k; moves = 0; events = 0; by = 0; decided = false; event = 0; thunk = 0 }) (c .before .number-of .ensures) ∙ ap (λ (a : Answer). flat (numbers a)) (sym (c .before .before .before .a6 .given .1))
 
 pub numbers-of-spec : {M : Type 1} → statement M
 numbers-of-spec =
@@ -92,6 +102,8 @@ numbers-of-spec =
     enum-known-a-4
     done-requires-4
     enum-known-a-5
+    handing-requires
+    enum-known-a-6
     number-of-requires
     refused-requires
     returns
@@ -99,4 +111,5 @@ numbers-of-spec =
     returns-3
     returns-4
     returns-5
-    returns-6)
+    returns-6
+    returns-7)

@@ -2,7 +2,7 @@
 use mathlib.Core.Logic.{⊎-elim}
 use native.Mathlib.Omega.{arith}
 use borrow.Author.Needs.{needs}
-use Rattle.layout.specs.Sound.{Sound}
+use Rattle.layout.specs.Sound.{Whole, Sound}
 use Rattle.layout.specs.Made.{IsMade}
 use Rattle.layout.specs.laws.RouteLaws.{few-between}
 use Rattle.layout.specs.laws.CheckLaws.{held, refuted}
@@ -13,6 +13,9 @@ use Rattle.store.proofs.far.Tie as tie
 -- past the first test the store is sound
 ok : (c : tie.Else1) → Sound (c .before .before .before .args .s .now)
 ok c = held (c .before .sound .result) (c .if1 .left) (c .before .sound .ensures)
+
+whole : (c : tie.Else1) → Whole (c .before .before .before .args .s .now)
+whole c = ok c .whole
 
 -- past the second both are environments
 made : (c : tie.Else2) → IsMade (c .before .before .before .before .before .args .s .now) (c .before .before .before .before .before .args .a)
@@ -28,10 +31,10 @@ returns : tie.Need-returns
 returns c = far-damaged _ _ _ (refuted (c .before .sound .result) (c .if1 .taken) (c .before .sound .ensures))
 
 is-made-requires : tie.Need-is-made-requires
-is-made-requires c κs = ok c
+is-made-requires c κs = whole c
 
 is-made-requires-2 : tie.Need-is-made-requires-2
-is-made-requires-2 c κs = ok (c .before .before)
+is-made-requires-2 c κs = whole (c .before .before)
 
 returns-2 : tie.Need-returns-2
 returns-2 c =
@@ -43,11 +46,11 @@ returns-2 c =
     (c .if2 .came)
 
 between-requires : tie.Need-between-requires
-between-requires c κs = (ok (c .before .before .before .before), (made (c .before .before), made′ c))
+between-requires c κs = (whole (c .before .before .before .before), (made (c .before .before), made′ c))
 
 cast-t14 : tie.Need-cast-t14
 cast-t14 c =
-    let store = ok (c .before .before .before .before .before) in
+    let store = whole (c .before .before .before .before .before) in
     let args = c .before .before .before .before .before .before .before .before .args in
     record { fits = omega (arith, c .between .ensures, few-between _ store (args .a) (args .b)) }
 

@@ -1,6 +1,6 @@
 -- `here` keeps its promise: Damaged where the check refutes soundness, else the focus. Assumes nothing.
 use native.Mathlib.Omega.{arith}
-use Rattle.layout.specs.Sound.{Sound}
+use Rattle.layout.specs.Sound.{Whole, Sound}
 use Rattle.layout.specs.laws.SoundLaws.{sound-fit}
 use Rattle.layout.specs.laws.CheckLaws.{held, refuted}
 use Rattle.store.proofs.Keeps.{here-damaged, here-done}
@@ -12,6 +12,9 @@ use Rattle.store.proofs.here.Tie as tie
 ok : (c : tie.Else1) → Sound (c .before .before .before .args .s .now)
 ok c = held (c .before .sound .result) (c .if1 .left) (c .before .sound .ensures)
 
+whole : (c : tie.Else1) → Whole (c .before .before .before .args .s .now)
+whole c = ok c .whole
+
 sound-requires : tie.Need-sound-requires
 sound-requires c κs = search needs
 
@@ -19,7 +22,7 @@ returns : tie.Need-returns
 returns c = here-damaged _ (refuted (c .before .sound .result) (c .if1 .taken) (c .before .sound .ensures))
 
 focus-of-requires : tie.Need-focus-of-requires
-focus-of-requires c κs = let fit = sound-fit _ (ok c) in omega (arith, fit .long)
+focus-of-requires c κs = let fit = sound-fit _ (whole c) in omega (arith, fit .long)
 
 cast-t6 : tie.Need-cast-t6
 cast-t6 c = search needs

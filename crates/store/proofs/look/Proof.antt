@@ -4,7 +4,7 @@ use mathlib.Core.List.{List}
 use Prim.Native.Nat.{ℕ, _<_}
 use native.Mathlib.Omega.{arith}
 use Rattle.layout.specs.Records.{vars}
-use Rattle.layout.specs.Sound.{Sound}
+use Rattle.layout.specs.Sound.{Whole, Sound}
 use Rattle.layout.specs.laws.SoundLaws.{sound-fit}
 use Rattle.layout.specs.laws.WalkLaws.{made-room, focus-made}
 use Rattle.layout.specs.laws.CheckLaws.{held, refuted}
@@ -19,6 +19,9 @@ use Rattle.store.proofs.look.Tie as tie
 ok : (c : tie.Else1) → Sound (c .before .before .before .args .s .now)
 ok c = held (c .before .sound .result) (c .if1 .left) (c .before .sound .ensures)
 
+whole : (c : tie.Else1) → Whole (c .before .before .before .args .s .now)
+whole c = ok c .whole
+
 -- past the second the variable is known
 known : (c : tie.Else2) → c .before .before .before .before .before .args .x < vars (c .before .before .before .before .before .args .s .now)
 known c = held (c .before .is-known .result) (c .if2 .left) (c .before .is-known .ensures)
@@ -30,26 +33,26 @@ returns : tie.Need-returns
 returns c = look-damaged _ _ (refuted (c .before .sound .result) (c .if1 .taken) (c .before .sound .ensures))
 
 is-known-requires : tie.Need-is-known-requires
-is-known-requires c κs = ok c
+is-known-requires c κs = whole c
 
 returns-2 : tie.Need-returns-2
 returns-2 c = let no = refuted (c .before .is-known .result) (c .if2 .taken) (c .before .is-known .ensures) in look-unknown _ _ (ok (c .before .before)) (omega arith)
 
 focus-of-requires : tie.Need-focus-of-requires
-focus-of-requires c κs = let fit = sound-fit _ (ok (c .before .before)) in omega (arith, fit .long)
+focus-of-requires c κs = let fit = sound-fit _ (whole (c .before .before)) in omega (arith, fit .long)
 
 decider-of-requires : tie.Need-decider-of-requires
-decider-of-requires c κs = let store = ok (c .before .before .before) in (store, rw (c .focus-of .ensures .0) (focus-made _ store))
+decider-of-requires c κs = let store = whole (c .before .before .before) in (store, rw (c .focus-of .ensures .0) (focus-made _ store))
 
 cell-requires : tie.Need-cell-requires
-cell-requires c κs = (sound-fit _ (ok (c .before .before .before .before)), known (c .before .before))
+cell-requires c κs = (sound-fit _ (whole (c .before .before .before .before)), known (c .before .before))
 
 bare-of-requires : tie.Need-bare-of-requires
 bare-of-requires c κs = search needs
 
 answered-requires : tie.Need-answered-requires
 answered-requires c κs =
-    let store = ok (c .before .before .before .before .before .before) in
+    let store = whole (c .before .before .before .before .before .before) in
     omega (arith, made-room _ store _ (c .before .before .decider-of .ensures .1), sound-fit _ store .n)
 
 returns-3 : tie.Need-returns-3

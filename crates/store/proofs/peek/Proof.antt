@@ -2,7 +2,7 @@
 use Prim.Native.Nat.{_<_}
 use native.Mathlib.Omega.{arith}
 use Rattle.layout.specs.Records.{vars}
-use Rattle.layout.specs.Sound.{Sound}
+use Rattle.layout.specs.Sound.{Whole, Sound}
 use Rattle.layout.specs.laws.SoundLaws.{sound-fit}
 use Rattle.layout.specs.laws.WalkLaws.{made-room}
 use Rattle.layout.specs.laws.CheckLaws.{held, refuted}
@@ -15,6 +15,9 @@ use Rattle.store.proofs.peek.Tie as tie
 -- past the first test the store is sound
 ok : (c : tie.Else1) → Sound (c .before .before .before .args .s .now)
 ok c = held (c .before .sound .result) (c .if1 .left) (c .before .sound .ensures)
+
+whole : (c : tie.Else1) → Whole (c .before .before .before .args .s .now)
+whole c = ok c .whole
 
 -- past the second the variable is known
 known : (c : tie.Else2) → c .before .before .before .before .before .args .x < vars (c .before .before .before .before .before .args .s .now)
@@ -31,23 +34,23 @@ returns : tie.Need-returns
 returns c = peek-damaged _ _ _ (refuted (c .before .sound .result) (c .if1 .taken) (c .before .sound .ensures))
 
 is-known-requires : tie.Need-is-known-requires
-is-known-requires c κs = ok c
+is-known-requires c κs = whole c
 
 returns-2 : tie.Need-returns-2
 returns-2 c = let no = refuted (c .before .is-known .result) (c .if2 .taken) (c .before .is-known .ensures) in peek-unknown _ _ _ (ok (c .before .before)) (omega arith)
 
 is-made-requires : tie.Need-is-made-requires
-is-made-requires c κs = ok (c .before .before)
+is-made-requires c κs = whole (c .before .before)
 
 returns-3 : tie.Need-returns-3
 returns-3 c = peek-unmade _ _ _ (ok (c .before .before .before .before)) (known (c .before .before)) (refuted (c .before .is-made .result) (c .if3 .taken) (c .before .is-made .ensures))
 
 find-requires : tie.Need-find-requires
-find-requires c κs = (ok (c .before .before .before .before), (made c, known (c .before .before)))
+find-requires c κs = (whole (c .before .before .before .before), (made c, known (c .before .before)))
 
 answered-requires : tie.Need-answered-requires
 answered-requires c κs =
-    let store = ok (c .before .before .before .before .before .before) in
+    let store = whole (c .before .before .before .before .before .before) in
     omega (arith, made-room _ store _ (c .before .find .ensures .made), sound-fit _ store .n)
 
 returns-4 : tie.Need-returns-4

@@ -5,7 +5,7 @@ use mathlib.Core.Path.{_≡_, refl, ap, _∙_}
 use Prim.Native.Nat.{_<_}
 use native.Mathlib.Omega.{arith}
 use Rattle.layout.specs.Records.{vars}
-use Rattle.layout.specs.Sound.{Sound}
+use Rattle.layout.specs.Sound.{Whole, Sound}
 use Rattle.layout.specs.laws.SoundLaws.{sound-fit}
 use Rattle.layout.specs.laws.CheckLaws.{held, refuted}
 use Rattle.layout.specs.Records.{bareC, cellOf}
@@ -17,6 +17,9 @@ use Rattle.store.proofs.set.Tie as tie
 -- past the first test the store is sound
 ok : (c : tie.Else1) → Sound (c .before .before .before .before .args .s .now)
 ok c = held (c .before .sound .result) (c .if1 .left) (c .before .sound .ensures)
+
+whole : (c : tie.Else1) → Whole (c .before .before .before .before .args .s .now)
+whole c = ok c .whole
 
 -- past the second the variable is known
 known : (c : tie.Else2) → c .before .before .before .before .before .before .before .args .x < vars (c .before .before .before .before .before .before .before .args .s .now)
@@ -36,7 +39,7 @@ returns : tie.Need-returns
 returns c = set-damaged _ _ _ (refuted (c .before .sound .result) (c .if1 .taken) (c .before .sound .ensures))
 
 is-known-requires : tie.Need-is-known-requires
-is-known-requires c κs = ok (c .before)
+is-known-requires c κs = whole (c .before)
 
 same-length-2 : tie.Need-same-length-2
 same-length-2 c = search needs
@@ -45,7 +48,7 @@ returns-2 : tie.Need-returns-2
 returns-2 c = let no = refuted (c .before .is-known .result) (c .if2 .taken) (c .before .is-known .ensures) in set-unknown _ _ _ (ok (c .before .before .before)) (omega arith)
 
 cell-requires : tie.Need-cell-requires
-cell-requires c κs = (sound-fit _ (ok (c .before .before .before .before)), known (c .before))
+cell-requires c κs = (sound-fit _ (whole (c .before .before .before .before)), known (c .before))
 
 bare-of-requires : tie.Need-bare-of-requires
 bare-of-requires c κs = search needs
@@ -60,7 +63,7 @@ returns-3 : tie.Need-returns-3
 returns-3 c = set-unbound _ _ _ (ok (c .before .before .before .before .before .before .before)) (known (c .before .before .before .before)) (rw (← (shown (c .before))) (c .if3 .taken))
 
 set-at-requires : tie.Need-set-at-requires
-set-at-requires c κs = (ok (c .before .before .before .before .before .before .before .before), known (c .before .before .before .before .before))
+set-at-requires c κs = (whole (c .before .before .before .before .before .before .before .before), known (c .before .before .before .before .before))
 
 same-length-4 : tie.Need-same-length-4
 same-length-4 c = search needs

@@ -36,22 +36,22 @@ walk-requires : tie.Need-walk-requires
 walk-requires c κs = search needs
 
 cast-t20 : tie.Need-cast-t20
-cast-t20 c = let (ok, made) = start (told (walked (c .before .before))) .pre in record { fits = omega (arith, made-room _ ok _ made, sound-fit _ ok .n) }
+cast-t20 c = let (ok, (out, made)) = start (told (walked (c .before .before))) .pre in record { fits = omega (arith, made-room _ (ok .whole) _ made, sound-fit _ (ok .whole) .n) }
 
 cast-t21 : tie.Need-cast-t21
 cast-t21 c =
     let survey = told (walked (c .before .before .before)) in
     let st = start survey in
-    record { fits = omega (arith, survey .survey .ensures .1 .0, few-moves _ (st .pre .0) (st .args .a)) }
+    record { fits = omega (arith, survey .survey .ensures .1 .0, few-moves _ (st .pre .0 .whole) (st .args .a)) }
 
 cast-t22 : tie.Need-cast-t22
 cast-t22 c =
     let survey = told (walked (c .before .before .before)) in
     let st = start survey in
-    record { fits = omega (arith, survey .survey .ensures .1 .1, few-events _ (st .pre .0) (st .args .a)) }
+    record { fits = omega (arith, survey .survey .ensures .1 .1, few-events _ (st .pre .0 .whole) (st .args .a)) }
 
 same-length-2 : tie.Need-same-length-2
-same-length-2 c = c .before .before .before .walk .ensures .kept .long
+same-length-2 c = c .before .before .before .walk .ensures .kept .size .long
 
 same-length-3 : tie.Need-same-length-3
 same-length-3 c = walked (c .before .before .before) .tell .kept .1 .0
@@ -62,9 +62,9 @@ returns-2 c =
     let walk = c .before .before .before in
     let tell = walk .before .before .before .before in
     let survey = tell .before .before .before .before in
-    let (ok, made) = survey .before .before .before .before .pre in
+    let (ok, (out, made)) = survey .before .before .before .before .pre in
     let way = survey .survey .ensures in
-    rw (way .1 .0, way .1 .1, tell .tell .ensures) (switch-done _ _ _ ok made (rw (way .1 .1) at (tell .before .before .before .if1 .left)) (walk .walk .ensures))
+    rw (way .1 .0, way .1 .1, tell .tell .ensures) (switch-done _ _ _ ok out made (rw (way .1 .1) at (tell .before .before .before .if1 .left)) (walk .walk .ensures))
 
 pub switch-to-spec : {M : Type 1} → statement M
 switch-to-spec =

@@ -6,10 +6,10 @@ use Rattle.agree.proofs.damage.each_refuses.Statement.{statement}
 use Rattle.agree.proofs.damage.each_refuses.Tie as tie
 
 abbrev Inv-loop : tie.InvT-loop
-Inv-loop g s₀ t₀ i₀ s t i = (i ≤ 9) × ((length s ≡ length s₀) × (length t ≡ 10))
+Inv-loop g s₀ t₀ i₀ s t i = (i ≤ 12) × ((length s ≡ length s₀) × (length t ≡ 10))
 
 abbrev μ-loop : tie.MeasureT-loop
-μ-loop g s₀ t₀ i₀ s t i = 9 - i
+μ-loop g s₀ t₀ i₀ s t i = 12 - i
 
 slice-aggregate-fill : tie.Need-slice-aggregate-fill Inv-loop μ-loop
 slice-aggregate-fill c = search needs

@@ -5,10 +5,10 @@ use Rattle.agree.proofs.image.keep.Statement.{statement}
 use Rattle.agree.proofs.image.keep.Tie as tie
 
 abbrev Inv-loop : tie.InvT-loop
-Inv-loop b m₀ i₀ m i = i ≤ length b
+Inv-loop field b m₀ i₀ m i = i ≤ length b
 
 abbrev μ-loop : tie.MeasureT-loop
-μ-loop b m₀ i₀ m i = length b - i
+μ-loop field b m₀ i₀ m i = length b - i
 
 loop-holds : tie.Need-loop-holds Inv-loop μ-loop
 loop-holds c = search needs

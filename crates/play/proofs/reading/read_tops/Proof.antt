@@ -11,9 +11,10 @@ use Rattle.layout.specs.Limits.{bareSize}
 use Rattle.text.specs.declared.line.Cell.{Cell}
 use Rattle.text.specs.declared.line.Line.{Line}
 use Rattle.text.specs.declared.line.Line.the-variants.{Top}
+use Rattle.card.specs.Tops.{cell-long}
 use Rattle.play.specs.Steps.{Ahead}
 use Rattle.play.proofs.Lines.{within}
-use Rattle.play.proofs.Tops.{cell-long, Taken, taken-none, top-there, is-top, taken-more, taken-all}
+use Rattle.play.proofs.Tops.{Taken, taken-none, top-there, is-top, taken-more, taken-all}
 use borrow.Author.Needs.{needs}
 use Rattle.play.proofs.reading.read_tops.Statement.{statement}
 use Rattle.play.proofs.reading.read_tops.Tie as tie

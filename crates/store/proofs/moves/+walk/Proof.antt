@@ -126,7 +126,7 @@ module _ (t : ℕ) where
       near-entered _ ok _ made (apart b) _ _ _ (w .walk .ensures) (nearer j) (λ e. test .if3 .taken (at .focus-of2 .ensures .0 ∙ e)) _ (c .before .before .enter .ensures)
 
   walk-same-length-2 : lts.Need-same-length-2 (cs t) (walk-at t) walk.Post
-  walk-same-length-2 c = walk-returns-2 c .kept .long
+  walk-same-length-2 c = walk-returns-2 c .kept .size .long
 
   walk-returns-3 : lts.Need-returns-3 (cs t) (walk-at t) walk.Post
   walk-returns-3 c =
@@ -138,7 +138,7 @@ module _ (t : ℕ) where
       near-here _ ok _ made (apart b) _ _ _ (w .walk .ensures) (nearer j) (sym (at .focus-of2 .ensures .0) ∙ c .if3 .left)
 
   walk-same-length-3 : lts.Need-same-length-3 (cs t) (walk-at t) walk.Post
-  walk-same-length-3 c = walk-returns-3 c .kept .long
+  walk-same-length-3 c = walk-returns-3 c .kept .size .long
 
 pub +walk-spec : {M : Type 1} → statement M
 +walk-spec =
