@@ -75,6 +75,28 @@ int check_answer(kn_answer got, kn_answer want, const char *what)
     return good;
 }
 
+static void show_env(const char *which, kn_env e)
+{
+    printf("     %s code=%u kind=%u parent=%u first=%u second=%u state=%u"
+           " value=%d\n", which, (unsigned)e.code, (unsigned)e.kind,
+           (unsigned)e.parent, (unsigned)e.first, (unsigned)e.second,
+           (unsigned)e.state, (int)e.value);
+}
+
+int check_env(kn_env got, kn_env want, const char *what)
+{
+    int good = got.code == want.code && got.kind == want.kind
+               && got.parent == want.parent && got.first == want.first
+               && got.second == want.second && got.state == want.state
+               && got.value == want.value;
+
+    if (!check(good, what) && failures <= SHOWN) {
+        show_env("got ", got);
+        show_env("want", want);
+    }
+    return good;
+}
+
 int check_report(void)
 {
     printf("tests=%lu checks=%lu failed=%lu\n", tests, checks, failures);
@@ -108,6 +130,12 @@ kn_answer refused(uint32_t code)
 {
     kn_answer r = { 0, (uint16_t)code, 0, 0, 0, 0, 0 };
     return r;
+}
+
+kn_env untold(uint32_t code)
+{
+    kn_env e = { 0, (uint16_t)code, 0, 0, 0, 0, 0 };
+    return e;
 }
 
 /* ---- Chance ---- */
@@ -206,7 +234,7 @@ const char *const call_name[CALL_KINDS] = {
 };
 
 /* A number around a limit: mostly below it, at times the limit or far off. */
-static uint32_t chance_near(uint32_t limit)
+uint32_t chance_near(uint32_t limit)
 {
     static const uint32_t far_off[] = { 256, 65536, 0x80000000u, 0xffffffffu };
     uint32_t kind = chance(16);
@@ -272,6 +300,18 @@ kn_answer beside(struct model *m, const struct call *c)
     return got;
 }
 
+static void tells(uint32_t a, kn_env want)
+{
+    lent_keep(&store);
+    check_env(kn_tell(store.bytes, store.len + beyond, a), want, "tell");
+    check(lent_same(&store), "tell changed a byte");
+}
+
+void tell_beside(const struct model *m, uint32_t a)
+{
+    tells(a, model_tell(m, a));
+}
+
 void refuses(const struct call *c, uint32_t code)
 {
     lent_keep(&store);
@@ -288,6 +328,7 @@ void all_refuse(struct call c)
         c.kind = (enum call_kind)kind;
         refuses(&c, KN_DAMAGED);
     }
+    tells(c.a, untold(KN_DAMAGED));
 }
 
 kn_answer open_beside(struct model *m, uint32_t vars, uint32_t nodes,

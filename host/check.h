@@ -13,12 +13,15 @@ void check_begin(void);             /* once, first of all                  */
 void check_name(const char *name);  /* the test that runs from here on     */
 int  check(int good, const char *what);
 int  check_answer(kn_answer got, kn_answer want, const char *what);
+int  check_env(kn_env got, kn_env want, const char *what);
 int  check_report(void);            /* prints the counts; an exit status   */
 
 kn_answer done(int32_t out, uint32_t moves, uint32_t events);
 kn_answer told(int32_t place, uint32_t moves, uint32_t event, uint32_t thunk);
 kn_answer seen(int32_t value, uint32_t by);
 kn_answer refused(uint32_t code);
+
+kn_env untold(uint32_t code);
 
 /* ---- Chance: the same numbers in every run ---- */
 
@@ -54,6 +57,7 @@ extern struct lent store, trace;
 extern size_t beyond;
 
 extern const char *const call_name[CALL_KINDS];
+uint32_t chance_near(uint32_t limit);
 struct call chance_call(const struct model *m);
 
 /* The call on the library with the two lent buffers. */
@@ -66,7 +70,11 @@ kn_answer beside(struct model *m, const struct call *c);
 /* The call on the library is refused with this code and changes no byte. */
 void refuses(const struct call *c, uint32_t code);
 
-/* So is each call with these arguments, whatever its kind, as damaged. */
+/* Tell beside the model: what it tells, and that no byte changes. */
+void tell_beside(const struct model *m, uint32_t a);
+
+/* So is each call with these arguments, whatever its kind, and tell, as
+   damaged. */
 void all_refuse(struct call c);
 
 /* Opens the lent store: the library beside the model. */
@@ -94,6 +102,7 @@ void test_face(void);
 void test_edges(void);
 void test_clauses(void);
 void test_walks(void);
+void test_tell(void);
 void test_damage(void);
 void test_runs(void);
 void test_doors(void);

@@ -611,6 +611,28 @@ kn_answer model_open(struct model *m, uint32_t vars, uint32_t nodes,
     return answer(KN_DONE, 0, 0, 0);
 }
 
+kn_env model_tell(const struct model *m, uint32_t a)
+{
+    kn_env e = { 0, KN_DONE, KN_ENV_TOP, 0, 0, 0, 0 };
+
+    if (a >= m->made) {
+        e.code = KN_NO_ENVIRONMENT;
+        e.kind = 0;
+    } else if (a > 0 && m->node[a].wind) {
+        e.kind = KN_ENV_WIND;
+        e.first = (uint16_t)m->node[a].prelude;
+        e.second = (uint16_t)m->node[a].postlude;
+    } else if (a > 0) {
+        e.kind = KN_ENV_BINDING;
+        e.first = (uint16_t)m->node[a].var;
+        e.state = m->node[a].own.bound != 0;
+        e.value = e.state ? m->node[a].own.value : 0;
+    }
+    if (e.code == KN_DONE && a > 0)
+        e.parent = (uint16_t)m->node[a].parent;
+    return e;
+}
+
 void model_trace(const struct model_events *events, uint8_t *trace)
 {
     unsigned i;

@@ -65,6 +65,9 @@ kn_answer model_open(struct model *m, uint32_t vars, uint32_t nodes,
 kn_answer model_call(struct model *m, const struct call *c, size_t trace_len,
                      struct model_events *events);
 
+/* What the environment a is, in a sound store. */
+kn_env model_tell(const struct model *m, uint32_t a);
+
 /* The events as a trace's bytes. */
 void model_trace(const struct model_events *events, uint8_t *trace);
 

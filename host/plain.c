@@ -743,23 +743,63 @@ static kn_answer peek_in(const uint8_t *store, unsigned by, unsigned x)
                         : cell_answer(cell[0], get32(cell + 1), by);
 }
 
+/* The value that this decider of x has: out, it stores its own. */
+static kn_answer own_value(const uint8_t *store, unsigned by, unsigned x)
+{
+    const uint8_t *node = store + node_at(store, by);
+
+    if (is_out(node[0]))
+        return cell_answer(node[1], value_of(node), by);
+    return peek_in(store, by, x);
+}
+
 kn_answer pl_peek(const uint8_t *store, size_t store_len,
                   uint32_t a, uint32_t x)
 {
-    const uint8_t *node;
-    unsigned by;
-
     if (!sound(store, store_len))
         return refuse(KN_DAMAGED);
     if (x >= vars_of(store))
         return refuse(KN_NO_VARIABLE);
     if (a >= made_of(store))
         return refuse(KN_NO_ENVIRONMENT);
-    by = decider(store + nodes_at(store), a, x);
-    node = store + node_at(store, by);
-    if (is_out(node[0]))
-        return cell_answer(node[1], value_of(node), by);
-    return peek_in(store, by, x);
+    return own_value(store, decider(store + nodes_at(store), a, x), x);
+}
+
+static kn_env untold(unsigned code)
+{
+    kn_env e = { 0, (uint16_t)code, 0, 0, 0, 0, 0 };
+    return e;
+}
+
+static unsigned env_kind(unsigned kind)
+{
+    if (is_binding(kind))
+        return KN_ENV_BINDING;
+    return is_wind(kind) ? KN_ENV_WIND : KN_ENV_TOP;
+}
+
+/* A binding has no postlude and the top no field but its kind: these are 0. */
+kn_env pl_tell(const uint8_t *store, size_t store_len, uint32_t a)
+{
+    const uint8_t *node;
+    kn_env e = untold(KN_DONE);
+    kn_answer own;
+
+    if (!sound(store, store_len))
+        return untold(KN_DAMAGED);
+    if (a >= made_of(store))
+        return untold(KN_NO_ENVIRONMENT);
+    node = store + node_at(store, a);
+    e.kind = (uint16_t)env_kind(node[0]);
+    e.parent = (uint16_t)parent_of(node);
+    e.first = (uint16_t)name_of(node);
+    e.second = (uint16_t)postlude_of(node);
+    if (!is_binding(node[0]))
+        return e;
+    own = own_value(store, a, name_of(node));
+    e.value = own.out;
+    e.state = own.code == KN_DONE;
+    return e;
 }
 
 uint32_t pl_limit(uint32_t which)

@@ -24,6 +24,8 @@
     kn_answer prefix##_here(const uint8_t *store, size_t store_len);        \
     kn_answer prefix##_far(const uint8_t *store, size_t store_len,          \
                            uint32_t a, uint32_t b);                         \
+    kn_env    prefix##_tell(const uint8_t *store, size_t store_len,         \
+                            uint32_t a);                                    \
     kn_answer prefix##_goto(uint8_t *store, size_t store_len,               \
                             uint8_t *trace, size_t trace_len, uint32_t a);  \
     kn_answer prefix##_back(uint8_t *store, size_t store_len,               \

@@ -64,6 +64,12 @@ static void call_peek_last(void)
 static void call_far_top(void) { answer = kn_far(s.store, s.len, LAST, 0); }
 static void call_far_across(void) { answer = kn_far(s.store, s.len, LAST, LAST / 2); }
 
+static void call_tell(void)
+{
+    answer.code = kn_tell(s.store, s.len, LAST / 2).code;
+    answer.moves = 0;
+}
+
 static void call_begin(void) { answer = kn_begin(s.store, s.len, LAST / 2); }
 static void call_step(void) { answer = kn_step(s.store, s.len); }
 static void call_drop(void) { answer = kn_drop(s.store, s.len); }
@@ -119,6 +125,7 @@ static const struct row rows[] = {
     { "here", chain, call_here, 0 },
     { "far, from the chain's end to the top", chain, call_far_top, 0 },
     { "far, across", fork_of_two, call_far_across, 0 },
+    { "tell, of the chain's middle from its end", chain, call_tell, 0 },
     { "goto, 2,047 left", chain, call_goto_top, LAST },
     { "goto, 2,047 entered", chain_at_top, call_goto_last, LAST },
     { "goto, half left, half entered", fork_of_two, call_goto_across, LAST },

@@ -8,6 +8,7 @@ int main(void)
     test_edges();
     test_clauses();
     test_walks();
+    test_tell();
     test_damage();
     test_runs();
     test_doors();

@@ -15,6 +15,7 @@ static void beside_chance(void)
     struct call c = chance_call(&meaning);
 
     beside(&meaning, &c);
+    tell_beside(&meaning, chance_near(meaning.made));
 }
 
 /* The lent store, whatever it is: every call refuses, or all is the model's. */

@@ -68,6 +68,31 @@ static void struct_abi(void)
                  told(1, 0, KN_ENTERING, 65535), "a step's fields too");
 }
 
+/* A wind's fields all differ, and so do those of a binding under it. */
+static void env_abi(void)
+{
+    static const uint8_t tops[10] = { 0 };
+    static const kn_env wind = { 0, KN_DONE, KN_ENV_WIND, 1, 258, 65534, 0 };
+    static const kn_env under = { -7, KN_DONE, KN_ENV_BINDING, 2, 1, 0, 1 };
+    uint8_t event[KN_EVENT_BYTES];
+
+    check_name("the environment's struct by value");
+    check(sizeof(kn_env) == 16, "16 bytes");
+    check(offsetof(kn_env, value) == 0 && offsetof(kn_env, code) == 4
+          && offsetof(kn_env, kind) == 6 && offsetof(kn_env, parent) == 8
+          && offsetof(kn_env, first) == 10 && offsetof(kn_env, second) == 12
+          && offsetof(kn_env, state) == 14, "its fields' places");
+    check(KN_ENV_TOP == 1 && KN_ENV_BINDING == 2 && KN_ENV_WIND == 3,
+          "enum kn_env_kind");
+    lent_take(&store, KN_SIZE(2, 4));
+    kn_open(2, 4, tops, sizeof tops, store.bytes, store.len);
+    kn_bind(store.bytes, store.len, 0, INT32_MAX);
+    kn_wind(store.bytes, store.len, event, sizeof event, 258, 65534);
+    kn_bind(store.bytes, store.len, 1, -7);
+    check_env(kn_tell(store.bytes, store.len, 2), wind, "a wind");
+    check_env(kn_tell(store.bytes, store.len, 3), under, "a binding");
+}
+
 /* Each call with an empty store at this pointer. */
 static void empty_store_at(uint8_t *at)
 {
@@ -81,6 +106,7 @@ static void empty_store_at(uint8_t *at)
         struct call c = { .kind = (enum call_kind)kind };
         check_answer(run_call(&c), refused(KN_DAMAGED), call_name[kind]);
     }
+    check_env(kn_tell(at, 0, 0), untold(KN_DAMAGED), "tell");
     check_answer(kn_open(1, 1, tops, 5, at, 0), refused(KN_SETUP), "open");
     check(lent_same(&trace), "the trace is kept");
     lent_take(&store, 0);
@@ -139,5 +165,6 @@ void test_face(void)
     header_constants();
     answer_numbers();
     struct_abi();
+    env_abi();
     lengths_of_0();
 }

@@ -94,6 +94,7 @@ static void random_calls(unsigned count, unsigned events)
         if (chance(4) == 0)
             chance_trace(events);
         step(chance_call(&meaning));
+        tell_beside(&meaning, chance_near(meaning.made));
     }
 }
 
@@ -164,6 +165,7 @@ static void asks(void)
     for (i = 0; i < 40; i++) {
         peek(chance(KN_MAX_NODES), chance(KN_MAX_VARS));
         far(chance(KN_MAX_NODES), chance(KN_MAX_NODES));
+        tell_beside(&meaning, chance(KN_MAX_NODES));
     }
 }
 

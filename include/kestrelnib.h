@@ -37,8 +37,8 @@
  *   is found. So time grows with vars + nodes: on an x86-64 PC, the 30 KB of
  *   a store at the limits take about 1 microsecond with only the top made, and
  *   about 5 with 2,047 environments in one line, the focus at its end. Look
- *   and peek then climb to the binding that decides, far to where two ways to
- *   the top meet, and goto and back move. A step climbs at most once from the
+ *   and peek then climb to the binding that decides, tell to the binding that
+ *   it tells, far to where two ways to the top meet, and goto and back move. A step climbs at most once from the
  *   walk's target and once from the focus, and moves.
  *
  * After DAMAGED.  The call changed nothing, and every call will say the same
@@ -77,6 +77,14 @@
  *
  * Then run, which is yours, was called once, with KN_LEAVING and 11 and the
  * focus at 1, and r says: code 0, out 0, moves 1, events 0.
+ *
+ * Tell: the nearest binding from the place up, past any wind.
+ *
+ *     kn_env env = kn_tell(store, sizeof store, place);
+ *     while (env.kind == KN_ENV_WIND)
+ *         env = kn_tell(store, sizeof store, env.parent);
+ *
+ * Then env says: code 0, KN_ENV_BINDING, first 0, state 1, value -1, parent 0.
  */
 #ifndef KESTRELNIB_H
 #define KESTRELNIB_H
@@ -143,6 +151,23 @@ typedef struct kn_answer {
     uint16_t event;  /* step with an event: KN_LEAVING or KN_ENTERING; else
                         0, so see first that events is 1                    */
 } kn_answer;
+
+/* What an environment is: kn_tell's answer. */
+enum kn_env_kind {
+    KN_ENV_TOP     = 1,
+    KN_ENV_BINDING = 2,
+    KN_ENV_WIND    = 3
+};
+
+typedef struct kn_env {
+    int32_t  value;  /* binding with a value: its own; else 0               */
+    uint16_t code;
+    uint16_t kind;   /* KN_ENV_TOP, KN_ENV_BINDING or KN_ENV_WIND           */
+    uint16_t parent; /* its parent's number; of the top 0                   */
+    uint16_t first;  /* binding: its variable; wind: its prelude; else 0    */
+    uint16_t second; /* wind: its postlude; else 0                          */
+    uint16_t state;  /* binding: 1 where it has a value; else 0             */
+} kn_env;
 
 /* ---- The trace ---------------------------------------------------------- */
 
@@ -255,6 +280,12 @@ kn_answer kn_here(const uint8_t *store, size_t store_len);
 kn_answer kn_far(const uint8_t *store, size_t store_len,
                  uint32_t a, uint32_t b);
 
+/* What the environment a is, with nothing moved: a binding with its variable
+   and its own value, as it is now, which is what peek finds at a; a wind with
+   its thunks; or the top. From a parent to the next, this is the way up.
+   Refusals: DAMAGED, NO_ENVIRONMENT. */
+kn_env kn_tell(const uint8_t *store, size_t store_len, uint32_t a);
+
 /* Moves the focus to a by the shortest way and writes an event for each wind
    left or entered. Answers a, the moves and the events.
    Refusals: DAMAGED, WALKING, NO_ENVIRONMENT, TRACE_ROOM. */
@@ -269,11 +300,11 @@ kn_answer kn_back(uint8_t *store, size_t store_len,
 
 /* A goto whose thunks run between its moves: begin, then steps until one says
    done. The store's bytes hold the walk, and no trace is needed. During a walk
-   look, peek, set, here and far do as ever, with the focus where the walk
-   stands; bind, wind, goto, back and a second begin are refused. A walk of so
-   many events is done at one step more; its steps together make goto's moves
-   and hand over goto's events, in their order. All three calls answer the
-   focus. */
+   look, peek, set, here, far and tell do as ever, with the focus where the
+   walk stands; bind, wind, goto, back and a second begin are refused. A walk
+   of so many events is done at one step more; its steps together make goto's
+   moves and hand over goto's events, in their order. All three calls answer
+   the focus. */
 
 /* Begins a walk to a; nothing is moved.
    Refusals: DAMAGED, WALKING, NO_ENVIRONMENT. */

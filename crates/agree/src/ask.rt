@@ -70,6 +70,20 @@ fn read(what: u8, one: usize, two: usize, s: &[u8]) -> Answer {
     }
 }
 
+// What the store tells of an environment, in an answer's places as the model has it.
+pub(crate) fn store_tell(s: &[u8], a: usize) -> Says {
+    let t = store::tell(s, cut32(a));
+    Says {
+        code: t.code as usize,
+        out: unsigned(t.value) as usize,
+        moves: t.kind as usize,
+        events: t.parent as usize,
+        by: t.first as usize,
+        event: t.state as usize,
+        thunk: t.second as usize,
+    }
+}
+
 pub(crate) fn store_reads(what: u8, one: usize, two: usize, s: &[u8]) -> Says {
     told(read(what, one, two, s))
 }

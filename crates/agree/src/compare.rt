@@ -1,4 +1,5 @@
-// What is compared, and what is counted: answers, every byte of the store, the values of all variables in all environments.
+// What is compared, and what is counted: answers, every byte of the store, the values of all variables in all environments, and what
+// each environment is.
 use crate::ask;
 use crate::buffer::byte;
 use crate::buffer::plus;
@@ -79,6 +80,8 @@ pub(crate) const DROPPED: usize = 35;
 
 pub(crate) const FIELDS: usize = 36;
 
+pub(crate) const ENVIRONMENTS: usize = 38;
+
 pub(crate) fn count(m: &mut [usize; SPACE], i: usize, n: usize) {
     let c = model::of(m, COUNTED, i);
     model::put(m, COUNTED, i, plus(c, n));
@@ -131,6 +134,18 @@ fn value_agrees(loud: bool, s: &[u8], m: &[usize; SPACE], a: usize, x: usize) ->
     false
 }
 
+// What is told of the environment a, or that it is not made.
+fn told_agrees(loud: bool, s: &[u8], m: &[usize; SPACE], a: usize) -> bool {
+    let want = model::tell_one(m, a);
+    let got = ask::store_tell(s, a);
+    if ask::agree(want, got) {
+        return true;
+    }
+    say::line(loud, say::TOLD, a, 0, 0);
+    say::answers(loud, want, got);
+    false
+}
+
 fn row_agrees(loud: bool, s: &[u8], m: &[usize; SPACE], a: usize) -> bool {
     let end = model::head(m, VARS);
     let mut x = 0;
@@ -143,11 +158,19 @@ fn row_agrees(loud: bool, s: &[u8], m: &[usize; SPACE], a: usize) -> bool {
     true
 }
 
+fn place_agrees(loud: bool, s: &[u8], m: &[usize; SPACE], a: usize) -> bool {
+    told_agrees(loud, s, m, a) && row_agrees(loud, s, m, a)
+}
+
+fn spot_agrees(loud: bool, s: &[u8], m: &[usize; SPACE], a: usize, x: usize) -> bool {
+    told_agrees(loud, s, m, a) && value_agrees(loud, s, m, a, x)
+}
+
 fn all_agree(loud: bool, s: &[u8], m: &[usize; SPACE]) -> bool {
     let end = model::head(m, MADE);
     let mut a = 0;
     while a < end {
-        if !row_agrees(loud, s, m, a) {
+        if !place_agrees(loud, s, m, a) {
             return false;
         }
         a += 1;
@@ -160,7 +183,7 @@ fn spots_agree(loud: bool, s: &[u8], m: &[usize; SPACE], seed: usize, spots: usi
     let mut i = 0;
     while i < spots {
         let h = draw::next(g);
-        if !value_agrees(
+        if !spot_agrees(
             loud,
             s,
             m,
@@ -196,7 +219,17 @@ fn values_same(loud: bool, g: usize, spots: usize, s: &[u8], m: &[usize; SPACE])
     }
 }
 
-// The values of all variables in all environments; where there are too many, at some drawn places.
+// How many environments are told: all or those of the drawn places, and the first that is not made.
+fn how_many_told(m: &[usize; SPACE], spots: usize) -> usize {
+    let told = if all_values(m) <= FEW {
+        model::head(m, MADE)
+    } else {
+        spots
+    };
+    plus(told, 1)
+}
+
+// The values of all variables in all environments, and what each is; where there are too many, at some drawn places.
 pub(crate) fn values_agree(
     loud: bool,
     g: usize,
@@ -205,8 +238,10 @@ pub(crate) fn values_agree(
     m: &mut [usize; SPACE],
 ) -> usize {
     let n = how_many(m, spots);
+    let told = how_many_told(m, spots);
     count(m, VALUES, n);
-    if values_same(loud, g, spots, s, m) {
+    count(m, ENVIRONMENTS, told);
+    if values_same(loud, g, spots, s, m) && told_agrees(loud, s, m, model::head(m, MADE)) {
         0
     } else {
         VALUE

@@ -63,7 +63,8 @@ fn each_refuses(g: usize, s: &mut [u8]) -> bool {
 pub(crate) fn all_refuse(g: usize, at: usize, old: usize, s: &mut [u8]) -> bool {
     let mut kept = [0u8; LARGEST];
     copy(s, &mut kept);
-    let refused = each_refuses(g, s);
+    let told = ask::store_tell(s, draw::draw(g, 3));
+    let refused = each_refuses(g, s) && ask::agree(told, model::untold(2));
     let same = holds(s, &kept, s.len());
     spell16(s, at, old);
     refused && same

@@ -35,7 +35,7 @@ pub(crate) const NEWEST: usize = MARK + Store::NODES;
 
 pub(crate) const COUNTED: usize = NEWEST + 1;
 
-pub(crate) const COUNTS: usize = 38;
+pub(crate) const COUNTS: usize = 39;
 
 pub(crate) const LENT: usize = COUNTED + COUNTS;
 
@@ -107,6 +107,32 @@ pub(crate) fn refused(code: usize) -> Says {
 
 pub(crate) fn done(out: usize) -> Says {
     answered(0, out, 0, 0)
+}
+
+// What an environment is, in an answer's places: its own value; its kind, parent and first number for moves, events and decider;
+// whether it has a value, and its second number, for a step's event and thunk.
+fn environment(
+    code: usize,
+    kind: usize,
+    parent: usize,
+    first: usize,
+    second: usize,
+    own: usize,
+) -> Says {
+    let bound = own != UNBOUND;
+    Says {
+        code,
+        out: if bound { own } else { 0 },
+        moves: kind,
+        events: parent,
+        by: first,
+        event: if bound { 1 } else { 0 },
+        thunk: second,
+    }
+}
+
+pub(crate) fn untold(code: usize) -> Says {
+    environment(code, 0, 0, 0, 0, UNBOUND)
 }
 
 // ---- the array
@@ -524,6 +550,25 @@ pub(crate) fn peek(m: &[usize; SPACE], a: usize, x: usize) -> Says {
         event: 0,
         thunk: 0,
     }
+}
+
+// What the environment a is. The top binds nothing.
+pub(crate) fn tell_one(m: &[usize; SPACE], a: usize) -> Says {
+    if head(m, MADE) <= a {
+        return untold(4);
+    }
+    if a == 0 {
+        return environment(0, 1, 0, 0, 0, UNBOUND);
+    }
+    let kind = plus(of(m, KIND, a), 1);
+    environment(
+        0,
+        kind,
+        of(m, PARENT, a),
+        of(m, GIVEN, a),
+        of(m, POST, a),
+        of(m, OWN, a),
+    )
 }
 
 pub(crate) fn look(m: &[usize; SPACE], x: usize) -> Says {

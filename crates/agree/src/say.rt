@@ -7,7 +7,7 @@ use libc::STDOUT_FILENO;
 
 // Each row ends in a dot. A, B and C stand for three numbers, V for B as the bits of a value, and / ends a line. There is a row
 // for each count by its number, then for the kinds of sequences, for what is found, for the operations, and the rows below.
-const TEXT: usize = 1989;
+const TEXT: usize = 2067;
 
 const ROWS: [u8; TEXT] = *b".\
     refused with 1=A/.\
@@ -47,6 +47,7 @@ const ROWS: [u8; TEXT] = *b".\
     walks dropped=A/.\
     false targets and winds refused=A/.\
     other targets and winds still sound=A/.\
+    environments told=A/.\
     deep.\
     bushy.\
     same variable.\
@@ -60,7 +61,7 @@ const ROWS: [u8; TEXT] = *b".\
     the answers differ/.\
     the trace differs/.\
     the bytes of the store differ/.\
-    a value differs/.\
+    a value, or what is told of an environment, differs/.\
     a damaged store was not refused, or a byte changed/.\
     the program has an error of its own/.\
     a run with jumps put in ends in other bytes/.\
@@ -92,45 +93,48 @@ const ROWS: [u8; TEXT] = *b".\
     here with the first bytes=A/.\
     its own parent: node=A/.\
     false depths: from node=A before=B plus=C/.\
-    put in: a jump to=A/.";
+    put in: a jump to=A/.\
+    told: environment=A/.";
 
-const KINDS: usize = 38;
+const KINDS: usize = 39;
 
-const FOUND: usize = 47;
+const FOUND: usize = 48;
 
-const OPERATIONS: usize = 56;
+const OPERATIONS: usize = 57;
 
-const SEED: usize = 68;
+const SEED: usize = 69;
 
-const PLAN: usize = 69;
+const PLAN: usize = 70;
 
-const MODEL: usize = 70;
+const MODEL: usize = 71;
 
-const STORE: usize = 71;
+const STORE: usize = 72;
 
-const SEEN: usize = 72;
+const SEEN: usize = 73;
 
-const UNSEEN: usize = 73;
+const UNSEEN: usize = 74;
 
-const HANDS: usize = 74;
+const HANDS: usize = 75;
 
-pub(crate) const BYTE: usize = 75;
+pub(crate) const BYTE: usize = 76;
 
-pub(crate) const VALUE: usize = 76;
+pub(crate) const VALUE: usize = 77;
 
-pub(crate) const DAMAGE: usize = 77;
+pub(crate) const DAMAGE: usize = 78;
 
-pub(crate) const HOLLOW: usize = 78;
+pub(crate) const HOLLOW: usize = 79;
 
-pub(crate) const OPEN: usize = 79;
+pub(crate) const OPEN: usize = 80;
 
-pub(crate) const CUT: usize = 80;
+pub(crate) const CUT: usize = 81;
 
-pub(crate) const PARENT: usize = 81;
+pub(crate) const PARENT: usize = 82;
 
-pub(crate) const DEPTHS: usize = 82;
+pub(crate) const DEPTHS: usize = 83;
 
-pub(crate) const JUMP: usize = 83;
+pub(crate) const JUMP: usize = 84;
+
+pub(crate) const TOLD: usize = 85;
 
 fn number(n: usize) {
     io::print_decimal(STDOUT_FILENO, n as u64);

@@ -1,8 +1,25 @@
-// Runs the cards of data/ that its arguments name, each under its name: the examples, run in the gate.
+// Runs the cards of data/ that its arguments name, each under its name: the examples, run in the gate. Of a card whose name begins
+// with why_ the last peek is explained too.
 use libc::STDOUT_FILENO;
 use play::Handed;
 use report::Input;
 use text::Card;
+
+// Whether the name begins with why_.
+fn asks_why(name: &[u8]) -> bool {
+    if name.len() < 4 {
+        return false;
+    }
+    name[0] == b'w' && name[1] == b'h' && name[2] == b'y' && name[3] == b'_'
+}
+
+// What the card prints, by its name.
+fn print(name: &[u8], card: &[u8]) -> Handed {
+    if asks_why(name) {
+        return why::why(card, STDOUT_FILENO);
+    }
+    play::play(card, STDOUT_FILENO)
+}
 
 // A card under its name. Whether all was written.
 fn write(name: &[u8], card: &[u8]) -> bool {
@@ -12,7 +29,7 @@ fn write(name: &[u8], card: &[u8]) -> bool {
     if !io::write_all(STDOUT_FILENO, b"\n") {
         return false;
     }
-    let Handed::To(_) = play::play(card, STDOUT_FILENO) else {
+    let Handed::To(_) = print(name, card) else {
         return false;
     };
     true

@@ -12,14 +12,15 @@ use mathlib.Core.List.{List, [], _∷_, _++_, map, reverse}
 use lib.IntN.{ℤ, pos}
 use lib.ListN as lists
 use lib.ListN.{length}
-use Rattle.rules.specs.Basic.{clash}
+use Rattle.rules.specs.Basic.{clash, orTop}
 use Rattle.rules.specs.Apart.{apart}
-use Rattle.rules.specs.Tree.{path}
+use Rattle.rules.specs.Tree.{binding, path}
+use Rattle.rules.specs.Calls.{decidedBy, own-decides, own-value}
 use Rattle.rules.specs.Values.{value, Cell, unbound}
 use Rattle.rules.specs.Store.{home}
 use Rattle.rules.specs.Moves.{Move, left, entered, Event, route, trace, trace-order}
 use Rattle.rules.specs.Meaning.{Means, home-means}
-use Rattle.rules.specs.Refusals.{setup, noValue, damaged, noLine, notWalking}
+use Rattle.rules.specs.Refusals.{setup, noEnvironment, noValue, damaged, noLine, notWalking}
 use Rattle.rules.specs.Act.{Ask, Goal, Stride, begin, step, drop, Call, stride, Free, shown, legOf, Ground, grounds}
 use Rattle.rules.specs.Effects.{Effect}
 use Rattle.rules.specs.Demands.{ground-known, Switched, switched-determined, switched-count, target-made}
@@ -35,13 +36,15 @@ use Rattle.layout.specs.Events.{told, eventsTo}
 use Rattle.layout.specs.laws.SoundLaws.{sound-view}
 use Rattle.layout.specs.laws.RouteLaws.{events-none}
 use Rattle.layout.specs.laws.WalkLaws.{kept-self, focus-made, seen-made}
+use Rattle.layout.specs.laws.Reading.{binding-up}
 use Rattle.layout.specs.Bytes.{Bytes}
 use Rattle.layout.specs.laws.Same.{becomes-one}
 use Rattle.layout.specs.Opening.{topCells}
-use Rattle.promises.specs.Answers.{Numbers, refusal, done, seen}
+use Rattle.promises.specs.declared.Told.{Told}
+use Rattle.promises.specs.Answers.{Numbers, refusal, done, seen, untold, telling}
 use Rattle.promises.specs.Tables.{Row, row, First, Applies, Lowest, first-exact, first-lowest, applies-above}
-use Rattle.promises.specs.Promises.{meaning, world, at, byAt, roomFor, Answers, Shows, damagedRow, walkingRow, Openable, Opened, OpenPromise, Told, SwitchDone, parentAt, GotoPromise, BackPromise, LookPromise, PeekPromise, FarDone, FarPromise}
-use Rattle.promises.specs.Calls.{Promised, eventsIn, rowAt, table, AskDone, Done, Called, called, done-sound, Code, is-done, is-refused, code-of, opens, number-same, table-above, called-lowest, sound-first}
+use Rattle.promises.specs.Promises.{meaning, world, at, byAt, roomFor, Answers, Shows, damagedRow, walkingRow, Openable, Opened, OpenPromise, DoneWith, SwitchDone, parentAt, GotoPromise, BackPromise, LookPromise, PeekPromise, FarDone, FarPromise, environmentRow, TellPromise}
+use Rattle.promises.specs.Calls.{Promised, eventsIn, rowAt, table, AskDone, Done, Called, called, done-sound, Code, is-done, is-refused, code-of, opens, number-same, table-above, called-lowest, sound-first, tell-made}
 use Rattle.demands.specs.Tests.{sizeAt, no-walk}
 use Rattle.demands.specs.AsAct.{Keeps, AsAct, as-act, handing-is, done-effect, told-none}
 use Rattle.demands.specs.NeverRead.{opened-value}
@@ -61,24 +64,29 @@ openConditions v n tops s = row setup (Openable v n tops s → ⊥) ∷ []
 abbrev pub conditions : Call → List ℕ → List ℕ → List Row
 conditions c s t = damagedRow s ∷ table c s t
 
+abbrev pub tellConditions : List ℕ → ℕ → List Row
+tellConditions s a = damagedRow s ∷ environmentRow s a ∷ []
+
 -- 0, or a number of the store's table (9 is the card program's)
 abbrev pub InTable : ℕ → Type 0
 InTable k = (k ≤ notWalking) × (k ≢ noLine)
 
-pub record Answered (rows : List Row) (Rise : Type 0) (n : Numbers) (Unchanged : Type 0) : Type 0 where
-  pub numbered : InTable (n .code)
+pub record Answered (rows : List Row) (Rise : Type 0) (code : ℕ) (Nothing Unchanged : Type 0) : Type 0 where
+  pub numbered : InTable code
   -- 0 exactly where no condition holds, else the first number whose condition holds, which is the lowest where they rise
-  pub exactly : First rows (n .code)
-  pub lowest : Rise → Lowest rows (n .code)
+  pub exactly : First rows code
+  pub lowest : Rise → Lowest rows code
   -- a refusal answers 0 beside its number, and no byte differs afterwards
-  pub nothing : 1 ≤ n .code → n ≡ refusal (n .code)
-  pub no-byte : 1 ≤ n .code → Unchanged
+  pub nothing : 1 ≤ code → Nothing
+  pub no-byte : 1 ≤ code → Unchanged
 
 pub record Demand1 : Type 0 where
-  pub opening : (v k : ℕ) (tops s s′ : List ℕ) (n : Numbers) → OpenPromise v k tops s s′ n → Answered (openConditions v k tops s) (Unit {0}) n (s′ ≡ s)
+  pub opening : (v k : ℕ) (tops s s′ : List ℕ) (n : Numbers) → OpenPromise v k tops s s′ n → Answered (openConditions v k tops s) (Unit {0}) (n .code) (n ≡ refusal (n .code)) (s′ ≡ s)
   -- the numbers rise for the calls that a walk leaves free, and outside a walk for all; a walk's own come first (document 02, W5)
   pub calls : (c : Call) (s t s′ t′ : List ℕ) (n : Numbers) → Promised c s t s′ t′ n
-      → Answered (conditions c s t) (Free c ⊎ (target s ≡ noneN)) n ((s′ ≡ s) × (t′ ≡ t))
+      → Answered (conditions c s t) (Free c ⊎ (target s ≡ noneN)) (n .code) (n ≡ refusal (n .code)) ((s′ ≡ s) × (t′ ≡ t))
+  -- tell (document 02, W7) tells nothing beside a refusal
+  pub telling : (s : List ℕ) (a : ℕ) (s′ : List ℕ) (n : Told) → TellPromise s a s′ n → Answered (tellConditions s a) (Unit {0}) (n .code) (n ≡ untold (n .code)) (s′ ≡ s)
 
 -- ==== 2. Opening makes the sound store. From any sound store every call answers and leaves what TR397's deep-binding rule
 -- says, with top values and set as document 01 adds them, and the store stays sound. Cells show the focus, reading from afar
@@ -134,6 +142,11 @@ pub record Demand2 : Type 0 where
   pub cells : (s : List ℕ) (x : ℕ) (s′ : List ℕ) (n : Numbers) → Sound s → x < vars s → LookPromise s x s′ n → n ≡ readAs (at s (focus s) x) (byAt s (focus s) x)
   -- reading from afar is right in every environment, and its decider too
   pub afar : (s : List ℕ) (a x : ℕ) (s′ : List ℕ) (n : Numbers) → Sound s → x < vars s → IsMade s a → PeekPromise s a x s′ n → n ≡ readAs (at s a x) (byAt s a x)
+  -- tell (document 02, W7) says of every environment what it is in the deep store, and its parent, with no byte changed; of a
+  -- binding, which decides its own variable, the value is its own
+  pub tell : (s : List ℕ) (a : ℕ) (s′ : List ℕ) (n : Told) → Sound s → IsMade s a → TellPromise s a s′ n
+      → (n ≡ telling (meaning s .tree .what a) (orTop (meaning s .tree .up a)) (at s a)) × (s′ ≡ s)
+  pub own : (s : List ℕ) (a x : ℕ) → Sound s → meaning s .tree .what a ≡ binding x → (at s a x ≡ meaning s .own .stored a) × (byAt s a x ≡ a)
   -- a switch alters no environment's value of any variable
   pub goto : (s t : List ℕ) (a : ℕ) (s′ t′ : List ℕ) (n : Numbers) → GotoPromise s t a s′ t′ n → (b x : ℕ) → at s′ b x ≡ at s b x
   pub back : (s t s′ t′ : List ℕ) (n : Numbers) → BackPromise s t s′ t′ n → (b x : ℕ) → at s′ b x ≡ at s b x
@@ -180,7 +193,7 @@ pub record Demand3 : Type 0 where
   pub as-far : (s t : List ℕ) (a : ℕ) (s′ t′ s″ : List ℕ) (n m : Numbers) → GotoPromise s t a s′ t′ n → n .code ≡ 0 → FarPromise s (focus s) a s″ m → m .out ≡ pos (n .moves)
   -- resumed where the focus is: done with no move and no event, and no byte differs
   pub resumed : (s t s′ t′ : List ℕ) (n : Numbers) → Bytes s → Bytes s′ → Sound s → target s ≡ noneN → GotoPromise s t (focus s) s′ t′ n
-      → Told n (pos (focus s)) 0 0 × (s′ ≡ s) × (t′ ≡ t)
+      → DoneWith n (pos (focus s)) 0 0 × (s′ ≡ s) × (t′ ≡ t)
 
 -- .. and of one finished walk's calls together (document 02, W5): begun in s to a, as s₁; then these calls, steps and what the host
 -- calls between them; done in s′. `OneStep` says how a step went, `Walks` what a walk's calls are and
@@ -227,18 +240,19 @@ table-in s t es (g ∷ gs) =
       table-in s t es gs,
     )
 
-answered : {rows : List Row} {Rise : Type 0} {n : Numbers} {Same Done : Type 0} → AllIn rows → (Rise → Lowest rows (n .code)) → Answers rows n Same Done → Answered rows Rise n Same
-answered {rows} {Rise} {n} known low a = record {
-  numbered = go (first-exact rows (n .code) (a .first));
-  exactly = a .first;
+answered : {rows : List Row} {Rise : Type 0} {code : ℕ} {Nothing Unchanged : Type 0} → AllIn rows → (Rise → Lowest rows code) → First rows code → (1 ≤ code → Nothing × Unchanged)
+    → Answered rows Rise code Nothing Unchanged
+answered {rows} {Rise} {code} known low first refused = record {
+  numbered = go (first-exact rows code first);
+  exactly = first;
   lowest = low;
-  nothing = λ h. a .refused h .0;
-  no-byte = λ h. a .refused h .1;
+  nothing = λ h. refused h .0;
+  no-byte = λ h. refused h .1;
 }
   where
-    go : (n .code ≡ 0) ⊎ Applies rows (n .code) → InTable (n .code)
+    go : (code ≡ 0) ⊎ Applies rows code → InTable code
     go (inl e) = (omega arith, λ z. omega arith)
-    go (inr w) = applies-in rows known (n .code) w
+    go (inr w) = applies-in rows known code w
 
 -- a number below 9
 below-line : (k : ℕ) → k < noLine → InTable k
@@ -246,14 +260,17 @@ below-line k h = (omega arith, λ e. omega arith)
 
 pub demand-1 : Demand1
 demand-1 = record {
-  opening = λ v k tops s s′ n p. answered (below-line setup (omega arith), tt) (λ _. first-lowest _ (omega arith, tt) (n .code) (p .answers .first)) (p .answers);
+  opening = λ v k tops s s′ n p. answered (below-line setup (omega arith), tt) (λ _. first-lowest _ (omega arith, tt) (n .code) (p .answers .first)) (p .answers .first) (p .answers .refused);
   calls = λ c s t s′ t′ n p.
       let q = called c s t s′ t′ n p in
-      answered (below-line damaged (omega arith), table-in s t (eventsIn c s) (grounds c)) (called-lowest c s t s′ t′ n q) q;
+      answered (below-line damaged (omega arith), table-in s t (eventsIn c s) (grounds c)) (called-lowest c s t s′ t′ n q) (q .first) (q .refused);
+  telling = λ s a s′ n p.
+      answered (below-line damaged (omega arith), (below-line noEnvironment (omega arith), tt))
+      (λ _. first-lowest _ (omega arith, (omega arith, tt)) (n .code) (p .first)) (p .first) (λ h. (p .refused h, p .same));
 }
 
 -- ==== proofs of 2
-out-is : {n : Numbers} {o : ℤ} {m e : ℕ} → Told n o m e → n .out ≡ o
+out-is : {n : Numbers} {o : ℤ} {m e : ℕ} → DoneWith n o m e → n .out ≡ o
 out-is h = ap (λ (k : Numbers). k .out) h
 
 done-replies : (c : Call) (s t s′ t′ : List ℕ) (n : Numbers) → Done c s t s′ t′ n → Replies c s s′ n
@@ -358,12 +375,26 @@ by-the-rule c s t s′ t′ n ok p =
       acts = a;
     }
 
+tells-deep : (s : List ℕ) (a : ℕ) (s′ : List ℕ) (n : Told) → Sound s → IsMade s a → TellPromise s a s′ n
+    → (n ≡ telling (meaning s .tree .what a) (orTop (meaning s .tree .up a)) (at s a)) × (s′ ≡ s)
+unfolding meaning home
+tells-deep s a s′ n ok made p = (tell-made s a s′ n p ok made, p .same)
+
+own-told : (s : List ℕ) (a x : ℕ) → Sound s → meaning s .tree .what a ≡ binding x → (at s a x ≡ meaning s .own .stored a) × (byAt s a x ≡ a)
+unfolding at byAt decidedBy meaning home
+own-told s a x ok is =
+    let (p, up) = binding-up s (ok .whole) a x is in
+    let proper = sound-view s (ok .whole) .proper in
+    (own-value (home (view s)) proper a p x up is, ap orTop (own-decides (view s .tree) proper a p x up is))
+
 pub demand-2 : Demand2
 demand-2 = record {
   opening = opens-sound;
   calls = λ c s t s′ t′ n ok p. by-the-rule c s t s′ t′ n ok (called c s t s′ t′ n p);
   cells = looks;
   afar = peeks;
+  tell = tells-deep;
+  own = own-told;
   goto = λ s t a s′ t′ n p. unaltered s t a s′ t′ n (p .answers);
   back = λ s t s′ t′ n p. unaltered s t (parentAt s) s′ t′ n (p .answers);
   stride = stride-unaltered;
@@ -397,7 +428,7 @@ walked s t a s′ t′ n b ok out d =
       placed = rw (w .told) (moves-placed (sound-view s (ok .whole)) (w .moves));
     }
 
-stays : (s t s′ t′ : List ℕ) (n : Numbers) → Bytes s → Bytes s′ → Sound s → SwitchDone s t (focus s) s′ t′ n → Told n (pos (focus s)) 0 0 × (s′ ≡ s) × (t′ ≡ t)
+stays : (s t s′ t′ : List ℕ) (n : Numbers) → Bytes s → Bytes s′ → Sound s → SwitchDone s t (focus s) s′ t′ n → DoneWith n (pos (focus s)) 0 0 × (s′ ≡ s) × (t′ ≡ t)
 unfolding view viewF fieldsOf
 stays s t s′ t′ n b b′ ok d =
     let (seen, moves, count, events) = switched-determined (view s) (view s′) (view s) (focus s) (d .moves) [] (length (d .moves)) 0 (d .events) [] (sound-view s (ok .whole)) (d .switched) (resumes (view s) (sound-view s (ok .whole))) in (
@@ -407,13 +438,13 @@ stays s t s′ t′ n b b′ ok d =
     )
 
 resumed-there : (s t s′ t′ : List ℕ) (n : Numbers) → Bytes s → Bytes s′ → Sound s → target s ≡ noneN → GotoPromise s t (focus s) s′ t′ n
-    → Told n (pos (focus s)) 0 0 × (s′ ≡ s) × (t′ ≡ t)
+    → DoneWith n (pos (focus s)) 0 0 × (s′ ≡ s) × (t′ ≡ t)
 resumed-there s t s′ t′ n b b′ ok out p = go (p .answers .first)
   where
     no-event : length (eventsTo s (focus s)) ≡ 0
     no-event = ap length (events-none (view s .tree) (sound-view s (ok .whole) .proper) (focus s))
 
-    go : First (conditions (Call.switch (Goal.goto (focus s))) s t) (n .code) → Told n (pos (focus s)) 0 0 × (s′ ≡ s) × (t′ ≡ t)
+    go : First (conditions (Call.switch (Goal.goto (focus s))) s t) (n .code) → DoneWith n (pos (focus s)) 0 0 × (s′ ≡ s) × (t′ ≡ t)
     go (inl (e, bad)) = absurd (bad ok)
     go (inr (x, inl (e, on))) = absurd (on out)
     go (inr (x, inr (o, inl (e, un)))) = absurd (un (focus-made s (ok .whole)))

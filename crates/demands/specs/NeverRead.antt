@@ -7,14 +7,15 @@ use mathlib.Core.Option.{none}
 use Prim.Native.Nat.{ℕ, _*_, _≤_, _<_}
 use native.Mathlib.Omega.{arith}
 use native.Mathlib.Decide.{ℕ-discrete, decLt}
-use mathlib.Core.List.{List, _∷_}
+use mathlib.Core.List.{List, [], _∷_}
 use lib.ListN.{length, take, drop}
 use lib.Seq.{take-at, drop-at}
 use lib.Dec.{eqb}
 use borrow.Author.Tests.{lt-ltb, le-ltb, ne-eqb}
+use Rattle.rules.specs.Basic.{orTop}
 use Rattle.rules.specs.Tree.{top, path-top}
 use Rattle.rules.specs.Values.{unbound}
-use Rattle.rules.specs.Store.{Deep, home}
+use Rattle.rules.specs.Store.{Store, Deep, home}
 use Rattle.rules.specs.Moves.{Event}
 use Rattle.rules.specs.Calls.{deciderAt, valueAt, look-right, openWhat}
 use Rattle.rules.specs.World.{World}
@@ -30,15 +31,18 @@ use Rattle.layout.specs.Events.{eventsB, told}
 use Rattle.layout.specs.laws.EventLaws.{events-length}
 use Rattle.layout.specs.laws.Laws.{of-buffer, cell-past}
 use Rattle.layout.specs.laws.SoundLaws.{what-top, what-blank, up-top, up-blank, Place, is-top, is-inner, is-blank, place, blank-node, sound-fit, sound-view}
+use Rattle.layout.specs.laws.WalkLaws.{made-seen, seen-made}
 use Rattle.layout.specs.Bytes.{Bytes}
 use Rattle.layout.specs.laws.Same.{same-meant, AgreeTo, agree-vars, agree-room, agree-view, agree-walk, agree-sound, agree-back}
 use Rattle.layout.specs.laws.StrideLaws.{walk-once}
 use Rattle.layout.specs.Opening.{topCells}
-use mathlib.Core.Logic.{inl}
-use Rattle.promises.specs.Answers.{Numbers, refusal}
-use Rattle.promises.specs.Tables.{first-one}
-use Rattle.promises.specs.Promises.{meaning, world, at, roomFor, damagedRow, Opened, Openable, OpenPromise}
-use Rattle.promises.specs.Calls.{Promised, table, Called, called, Code, is-done, is-refused, code-of, done-sound, opens, opens-not}
+use mathlib.Core.Logic.{inl, inr}
+use Rattle.promises.specs.declared.Told.{Told}
+use Rattle.promises.specs.Answers.{Numbers, refusal, telling}
+use Rattle.promises.specs.Tables.{First, first-one}
+use Rattle.promises.specs.Stable.{sound-stable, made-stable}
+use Rattle.promises.specs.Promises.{meaning, world, at, roomFor, damagedRow, environmentRow, tells, TellPromise, Opened, Openable, OpenPromise}
+use Rattle.promises.specs.Calls.{Promised, table, Called, called, Code, is-done, is-refused, code-of, done-sound, opens, opens-not, tell-damaged, tell-unmade, tell-made}
 use Rattle.demands.specs.Tests.{sizeAt, tracedBy}
 use Rattle.demands.specs.AsAct.{acted, numbersOf, keeps-size, AsAct, as-act}
 
@@ -254,3 +258,27 @@ never-read-open v n tops s u s′ u′ out out′ long b b′ p q = go (code-of 
     go (is-refused r) c =
         let first = opens-not v n tops s s′ out p (bad p r) .0 in
         (first ∙ sym (opens-not v n tops u u′ out′ q (λ o. bad p r (longer (sym long) o)) .0), λ z. absurd (omega arith))
+
+-- ---- tell: stores that agree up to the size tell the same
+tells-alike : (s u : List ℕ) (a : ℕ) → view s ≡ view u → tells s a ≡ tells u a
+unfolding at meaning
+tells-alike s u a e = ap (λ (v : Store). telling (v .tree .what a) (orTop (v .tree .up a)) (valueAt (home v) a)) e
+
+pub never-read-tell : (s u : List ℕ) (a : ℕ) (s′ u′ : List ℕ) (n m : Told) → AgreeTo s u → TellPromise s a s′ n → TellPromise u a u′ m → n ≡ m
+never-read-tell s u a s′ u′ n m agree p q = go (p .first)
+  where
+    made-too : {v w : List ℕ} → Sound v → Sound w → view v ≡ view w → IsMade v a → IsMade w a
+    made-too {v} {w} ok ok′ e h = seen-made w (ok′ .whole) a (λ z. made-seen v (ok .whole) a h (ap (λ (d : Store). d .tree .what a) e ∙ z))
+
+    sounds : ((Sound s → ⊥) → ⊥) → Sound s × Sound u
+    sounds twice = let ok = sound-stable s twice in (ok, agree-sound s u agree ok)
+
+    go : First (damagedRow s ∷ environmentRow s a ∷ []) (n .code) → n ≡ m
+    go (inl (e, bad)) = tell-damaged s a s′ n p bad ∙ sym (tell-damaged u a u′ m q (λ ok. bad (agree-sound u s (agree-back s u agree) ok)))
+    go (inr (twice, inl (e, un))) =
+        let (ok, ok′) = sounds twice in
+        tell-unmade s a s′ n p ok un ∙ sym (tell-unmade u a u′ m q ok′ (λ h. un (made-too ok′ ok (sym (agree-view s u agree)) h)))
+    go (inr (twice, inr (off, e))) =
+        let (ok, ok′) = sounds twice in
+        let here : IsMade s a = made-stable s a off in
+        p .done e ∙ tells-alike s u a (agree-view s u agree) ∙ sym (tell-made u a u′ m q ok′ (made-too ok ok′ (agree-view s u agree) here))

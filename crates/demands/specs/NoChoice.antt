@@ -12,10 +12,11 @@ use Rattle.layout.specs.Becomes.{Sized}
 use Rattle.layout.specs.laws.WalkLaws.{sized-self}
 use Rattle.layout.specs.Bytes.{Bytes}
 use Rattle.layout.specs.laws.Same.{same-whole}
+use Rattle.promises.specs.declared.Told.{Told}
 use Rattle.promises.specs.Answers.{Numbers}
-use Rattle.promises.specs.Promises.{OpenPromise}
+use Rattle.promises.specs.Promises.{OpenPromise, TellPromise}
 use Rattle.promises.specs.Calls.{Promised, Called, called, Code, is-done, is-refused, code-of, done-sound, done-leaves}
-use Rattle.demands.specs.NeverRead.{Fate, both-refused, both-acted, fate, never-read, never-read-open}
+use Rattle.demands.specs.NeverRead.{Fate, both-refused, both-acted, fate, never-read, never-read-open, never-read-tell}
 
 -- every call leaves the size, the length and the bytes past the size
 pub keeps : (c : Call) (s t s′ t′ : List ℕ) (n : Numbers) → Called c s t s′ t′ n → Sized s s′
@@ -61,3 +62,7 @@ module _ (s s′ s″ : List ℕ) (n m : Numbers) (b : Bytes s′) (b′ : Bytes
           let first : take (sizeOf v k) s′ ≡ take (sizeOf v k) s″ = bytes d in
           let rest : drop (sizeOf v k) s′ ≡ drop (sizeOf v k) s″ = p .answers .done d .past ∙ sym (q .answers .done (rw e at d) .past) in
           sym (take-append-drop (sizeOf v k) s′) ∙ (λ i. first i ++ rest i) ∙ take-append-drop (sizeOf v k) s″
+
+-- tell, which changes no byte
+pub tell-one : (s : List ℕ) (a : ℕ) (s′ s″ : List ℕ) (n m : Told) → TellPromise s a s′ n → TellPromise s a s″ m → (n ≡ m) × (s′ ≡ s″)
+tell-one s a s′ s″ n m p q = (never-read-tell s s a s′ s″ n m refl p q, p .same ∙ sym (q .same))

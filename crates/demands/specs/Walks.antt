@@ -29,7 +29,7 @@ use Rattle.layout.specs.Becomes.{Sized}
 use Rattle.layout.specs.Bytes.{Bytes}
 use Rattle.layout.specs.Events.{told, eventsTo}
 use Rattle.promises.specs.Answers.{Numbers}
-use Rattle.promises.specs.Promises.{meaning, at, Told, BeginPromise}
+use Rattle.promises.specs.Promises.{meaning, at, DoneWith, BeginPromise}
 use Rattle.demands.specs.Tests.{sizeAt}
 use Rattle.demands.specs.Held.{Held, WayOf}
 use Rattle.demands.specs.OneStep.{Heard, heardIn, heardAs, owedAt}
@@ -164,7 +164,7 @@ pub record SoFar (s : List ℕ) (a : ℕ) (qs : List Step) (u : List ℕ) : Type
 -- ==== begin and drop make no move: they answer the focus, alter no value and write nothing to a trace. The store is sound, and the
 -- target is then a (65,535 for none), with no wind handed over
 pub record Stands (s t s′ t′ : List ℕ) (a : ℕ) (n : Numbers) : Type 0 where
-  pub answer : Told n (pos (focus s)) 0 0
+  pub answer : DoneWith n (pos (focus s)) 0 0
   pub sound : Sound s′
   pub target : target s′ ≡ a
   pub handed : handed s′ ≡ noneN

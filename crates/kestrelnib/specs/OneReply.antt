@@ -7,10 +7,11 @@ use mathlib.Core.List.{List}
 use lib.IntN.{ℤ}
 use Rattle.rules.specs.Act.{Ask, Child, Goal, Stride, Call}
 use Rattle.layout.specs.Bytes.{Bytes}
-use Rattle.promises.specs.Promises.{OpenPromise, LookPromise, PeekPromise, FarPromise, HerePromise, SetPromise, BindPromise, WindPromise, GotoPromise, BackPromise, BeginPromise, StepPromise, DropPromise}
-use Rattle.demands.specs.NoChoice.{no-choice, no-choice-untraced, open-one}
+use Rattle.promises.specs.Promises.{OpenPromise, LookPromise, PeekPromise, FarPromise, TellPromise, HerePromise, SetPromise, BindPromise, WindPromise, GotoPromise, BackPromise, BeginPromise, StepPromise, DropPromise}
+use Rattle.demands.specs.NoChoice.{no-choice, no-choice-untraced, open-one, tell-one}
 use Rattle.kestrelnib.specs.declared.Reply.{Reply}
-use Rattle.kestrelnib.specs.Face.{Hands, hands-one}
+use Rattle.kestrelnib.specs.declared.Env.{Env}
+use Rattle.kestrelnib.specs.Face.{Hands, hands-one, toldOf, told-once}
 
 -- the numbers, and beside them store and trace
 both : {A B C : Type 0} → A × B × C → A × (B × C)
@@ -60,3 +61,7 @@ module _ (s s′ s″ : List ℕ) (b : Bytes s′) (b′ : Bytes s″) (r q : Re
 
     pub kn-back-one : Hands r (BackPromise s t s′ t′) → Hands q (BackPromise s t s″ t″) → (r ≡ q) × ((s′ ≡ s″) × (t′ ≡ t″))
     kn-back-one = hands-one (λ n m h l. both (no-choice s t s′ t′ s″ t″ n m b b′ (Call.switch Goal.back) h l))
+
+-- tell has a struct of its own, and leaves the store as it was
+pub kn-tell-one : (s : List ℕ) (a : ℕ) (s′ s″ : List ℕ) (r q : Env) → TellPromise s a s′ (toldOf r) → TellPromise s a s″ (toldOf q) → (r ≡ q) × (s′ ≡ s″)
+kn-tell-one s a s′ s″ r q p p′ = let (same, bytes) = tell-one s a s′ s″ (toldOf r) (toldOf q) p p′ in (told-once same, bytes)

@@ -1,9 +1,10 @@
-// The C face: the thirteen calls for the firmware. Each hands its numbers and buffers on, and its answer back as one plain struct.
+// The C face: the fourteen calls for the firmware. Each hands its numbers and buffers on, and its answer back as one plain struct.
 ghost use mathlib.Core.Path.{_≡_};
 ghost use Rattle.promises.specs.Answers.{numbers};
-ghost use Rattle.promises.specs.Promises.{OpenPromise, BindPromise, WindPromise, LookPromise, SetPromise, HerePromise, GotoPromise, BackPromise, PeekPromise, FarPromise, BeginPromise, StepPromise, DropPromise};
-ghost use Rattle.kestrelnib.specs.Face.{replyOf, Hands, limit};
+ghost use Rattle.promises.specs.Promises.{OpenPromise, BindPromise, WindPromise, LookPromise, SetPromise, HerePromise, GotoPromise, BackPromise, PeekPromise, FarPromise, TellPromise, BeginPromise, StepPromise, DropPromise};
+ghost use Rattle.kestrelnib.specs.Face.{replyOf, Hands, toldOf, limit};
 use promises::Answer;
+use promises::Told;
 use promises::numbers_of;
 
 // Document 01's numbers of an answer: the answer itself, its number, the moves, the number of events; of a value the decider,
@@ -103,6 +104,39 @@ pub extern "C" fn kn_far(store: &[u8], a: u32, b: u32) -> Reply
     ensures { λ r. ⌜ Hands r (FarPromise (now (store .entry)) a b (now (store .exit))) ⌝ }
 {
     numbered(store::far(store, a, b))
+}
+
+// What an environment is: the fields are those told.
+#[repr(C)]
+pub struct Env {
+    pub value: i32,
+    pub code: u16,
+    pub kind: u16,
+    pub parent: u16,
+    pub first: u16,
+    pub second: u16,
+    pub state: u16,
+}
+
+fn env_of(t: Told) -> Env
+    ensures { λ r. ⌜ toldOf r ≡ t ⌝ }
+{
+    Env {
+        value: t.value,
+        code: t.code,
+        kind: t.kind,
+        parent: t.parent,
+        first: t.first,
+        second: t.second,
+        state: t.state,
+    }
+}
+
+#[no_mangle]
+pub extern "C" fn kn_tell(store: &[u8], a: u32) -> Env
+    ensures { λ r. ⌜ TellPromise (now (store .entry)) a (now (store .exit)) (toldOf r) ⌝ }
+{
+    env_of(store::tell(store, a))
 }
 
 #[no_mangle]

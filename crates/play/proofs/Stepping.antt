@@ -26,8 +26,8 @@ use Rattle.card.specs.Running.{Ran}
 use Rattle.play.specs.declared.Handed.{Handed}
 use Rattle.play.specs.declared.Handed.the-variants as Handed
 use Rattle.play.specs.declared.progress.Progress.{Progress}
-use Rattle.play.specs.Output.{eventText, eventsText, Runs, Prints, bad, good, Stands}
-use Rattle.play.specs.Steps.{pageBytes, Ahead, SoFar, Ended, Ready, toGo, Told, Puts, Fills, HandedOn, AllOf}
+use Rattle.play.specs.Output.{eventText, eventsText, Runs, Prints, bad, good, Leaves, finished, leaves-prints, Stands}
+use Rattle.play.specs.Steps.{pageBytes, Ahead, SoFar, Ended, Ready, toGo, Told, Puts, Fills, HandedOn, AllOf, mostBytes, AllLeft}
 use Rattle.play.proofs.Lines as lines
 use Rattle.play.proofs.Texts.{grown, within, kept}
 use Rattle.play.proofs.Running.{events-none, tell-next, run-next}
@@ -144,14 +144,14 @@ module _ (p : Progress) (u : ℕ) where
 
 -- ---- the pages
 -- nothing is left to be printed
-pub all-printed : {card x : List ℕ} {p : Progress} {s t : List ℕ} → SoFar card x p s t → Ended card p → Prints card [] x
+pub all-printed : {card x : List ℕ} {p : Progress} {s t : List ℕ} → SoFar card x p s t → Ended card p → Leaves card x s
 all-printed {card} {x} {p} {s} {t} f d = go (f .rest) (f .ahead) (f .runs)
   where
     none-left : x ++ eventsText t (p .told) (p .left) ≡ x
     none-left = ap (λ (y : List ℕ). x ++ y) (events-none t (p .told) (p .left) (d .1)) ∙ append-nil x
 
-    go : (os : List Op) → Ahead card (p .at) (map Do os) → Runs 0 (f .ops) (f .store) (f .trace) (x ++ eventsText t (p .told) (p .left)) (p .number) os s t → Prints card [] x
-    go [] a g = good (f .begins) (subst (λ (y : List ℕ). Runs 0 (f .ops) (f .store) (f .trace) y (p .number) [] s t) none-left g)
+    go : (os : List Op) → Ahead card (p .at) (map Do os) → Runs 0 (f .ops) (f .store) (f .trace) (x ++ eventsText t (p .told) (p .left)) (p .number) os s t → Leaves card x s
+    go [] a g = finished (f .begins) (subst (λ (y : List ℕ). Runs 0 (f .ops) (f .store) (f .trace) y (p .number) [] s t) none-left g)
     go (o ∷ os) a g = absurd (omega (arith, d .0, length-drop (p .at) card, ap length (a .bytes) ∙ length-append (written (Do o)) (10 ∷ text (map Do os))))
 
 -- what was printed last stands in the output
@@ -175,6 +175,9 @@ pub record Writing (card : List ℕ) (p₀ p : Progress) (s t : List ℕ) (done 
 
 pub writing-none : {card s t : List ℕ} {p : Progress} → Ready card t p → SoFar card [] p s t → Writing card p p s t 0
 writing-none {card} {s} {t} {p} r f = record { ready = r; before = []; count = refl; so-far = f; bound = omega arith }
+
+pub output-fits : {card s t t₀ : List ℕ} {p₀ p : Progress} {done : ℕ} → Writing card p₀ p s t done → Ready card t₀ p₀ → done ≤ mostBytes
+output-fits w r = omega (arith, w .bound, r .short, r .few, r .events)
 
 -- a line is left
 pub some-left : (card : List ℕ) (p : Progress) → (Ended card p → ⊥) → p .left ≤ 0 → p .at < length card
@@ -215,6 +218,10 @@ bad-stands {card} {x} n h e =
 pub handed-to : {n m : ℕ} {r : Handed} → r ≡ Handed.To m → HandedOn n r → m ≡ n
 handed-to {n} {m} {r} e h = rw e at h
 
-pub handed-all : {card x : List ℕ} {n : ℕ} (r : Handed) → HandedOn n r → n ≡ length x → Prints card [] x → AllOf card r
-handed-all {card} {x} {n} (Handed.To m) h e p = (x, p, h ∙ e)
-handed-all {card} {x} {n} Handed.Lost h e p = tt
+pub handed-all : {card x s : List ℕ} {n : ℕ} (r : Handed) → HandedOn n r → n ≡ length x → n ≤ longest → Leaves card x s → AllLeft card s r
+handed-all {card} {x} {s} {n} (Handed.To m) h e f p = (x, p, h ∙ e, omega (arith, h, f))
+handed-all {card} {x} {s} {n} Handed.Lost h e f p = tt
+
+pub left-all : (card s : List ℕ) (r : Handed) → AllLeft card s r → AllOf card r
+left-all card s (Handed.To m) h = (h .0, leaves-prints (h .1), h .2)
+left-all card s Handed.Lost h = tt

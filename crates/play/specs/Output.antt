@@ -1,5 +1,5 @@
 -- What a card prints, the whole of it (document 01, "The card"): for each operation its line, then a line an event; of a card that is no
--- good its one line. Assumes nothing: these are definitions.
+-- good its one line. Assumes nothing: these are definitions, and that what leaves a store is printed.
 use mathlib.Core.Path.{_≡_}
 use mathlib.Core.List.{List, [], _∷_, _++_}
 use Prim.Native.Nat.{ℕ, zero, suc, _+_, _*_, _≤_}
@@ -59,6 +59,15 @@ pub record Begins (card : List ℕ) (ops : List Op) (s t : List ℕ) : Type 0 wh
 pub data Prints (card : List ℕ) : List Op → List ℕ → Type 0 where
   bad : (n : ℕ) → StopsAt card n → Prints card [] (badLine n)
   good : {k : ℕ} {ops rest : List Op} {s t s′ t′ text : List ℕ} → Begins card ops s t → Runs 0 ops s t text k rest s′ t′ → Prints card rest text
+
+-- the text is the card's whole output, and s the store as the last operation left it; a card that is no good leaves any
+pub data Leaves (card : List ℕ) : List ℕ → List ℕ → Type 0 where
+  refused : {s : List ℕ} (n : ℕ) → StopsAt card n → Leaves card (badLine n) s
+  finished : {k : ℕ} {ops : List Op} {s t s′ t′ text : List ℕ} → Begins card ops s t → Runs 0 ops s t text k [] s′ t′ → Leaves card text s′
+
+pub leaves-prints : {card text s : List ℕ} → Leaves card text s → Prints card [] text
+leaves-prints (refused n h) = bad n h
+leaves-prints (finished b r) = good b r
 
 -- the text stands in the card's output, from the place at on
 pub record Stands (card : List ℕ) (at : ℕ) (text : List ℕ) : Type 0 where

@@ -21,7 +21,7 @@ use Rattle.play.specs.declared.reading.Heads.{Heads}
 use Rattle.play.specs.declared.reading.Headed.{Headed}
 use Rattle.play.specs.declared.reading.Headed.the-variants as Headed
 use Rattle.play.specs.declared.progress.Progress.{Progress}
-use Rattle.play.specs.Output.{eventText, eventsText, Runs, Begins, Prints}
+use Rattle.play.specs.Output.{eventText, eventsText, Runs, Begins, Prints, Leaves}
 
 -- the bytes of a page
 abbrev pub pageBytes : ℕ
@@ -106,3 +106,12 @@ HandedOn n Handed.Lost = Unit {0}
 abbrev pub AllOf : List ℕ → Handed → Type 0
 AllOf card (Handed.To n) = (text : List ℕ) × Prints card [] text × (n ≡ length text)
 AllOf card Handed.Lost = Unit {0}
+
+-- no card prints more bytes: a page for each operation and each event that the longest card can have
+abbrev pub mostBytes : ℕ
+mostBytes = 137447337984
+
+-- .. and it leaves the store s
+abbrev pub AllLeft : List ℕ → List ℕ → Handed → Type 0
+AllLeft card s (Handed.To n) = (text : List ℕ) × Leaves card text s × (n ≡ length text) × (n ≤ mostBytes)
+AllLeft card s Handed.Lost = Unit {0}

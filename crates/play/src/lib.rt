@@ -1,4 +1,5 @@
-// Runs one card from its bytes, and writes what it prints to a file descriptor, page by page.
+// Runs one card from its bytes, and writes what it prints to a file descriptor, page by page. The store may be lent, so that a caller has
+// it as the card's last operation left it.
 mod page;
 mod progress;
 mod reading;
@@ -17,12 +18,12 @@ use layout::Store;
 use print::Print;
 use print::put_bad;
 ghost use mathlib.Core.Path.{_≡_};
-ghost use mathlib.Core.List.{[]};
-ghost use Prim.Native.Nat.{_+_, _<_, _^_};
+ghost use mathlib.Core.List.{List, []};
+ghost use Prim.Native.Nat.{ℕ, _+_, _<_, _^_};
 ghost use lib.ListN.{length};
 ghost use Rattle.card.specs.Cards.{Passes, StopsAt};
 ghost use Rattle.play.specs.Output.{Stands};
-ghost use Rattle.play.specs.Steps.{Ready, SoFar, Begun, HandedOn, AllOf};
+ghost use Rattle.play.specs.Steps.{Ready, SoFar, Begun, HandedOn, AllOf, AllLeft};
 
 // The largest store, the largest top cells and the largest trace of a card.
 pub struct Sizes {}
@@ -55,7 +56,7 @@ fn hand(card: &[u8], from: usize, text: &[u8], fd: i32) -> Handed
 // What is printed from a beginning to the end, page by page.
 fn write_pages(start: Progress, card: &[u8], store: &mut [u8], trace: &mut [u8], fd: i32) -> Handed
     requires { ⌜ Ready (now card) (now trace) start × SoFar (now card) [] start (now store) (now trace) ⌝ }
-    ensures { λ r. ⌜ AllOf (now (card .entry)) r ⌝ }
+    ensures { λ r. ⌜ AllLeft (now (card .entry)) (now (store .exit)) r ⌝ }
 {
     let mut page = [0u8; Page::BYTES];
     let mut p = start;
@@ -81,7 +82,7 @@ fn run_in(
     fd: i32,
 ) -> Handed
     requires { ⌜ Begun (now card) heads (length (now tops)) (length (now store)) (length (now trace)) ⌝ }
-    ensures { λ r. ⌜ AllOf (now (card .entry)) r ⌝ }
+    ensures { λ r. ⌜ AllLeft (now (card .entry)) (now (store .exit)) r ⌝ }
 {
     let cells = Store::BARE * heads.vars as usize;
     let room = Store::EVENT * heads.room as usize;
@@ -98,36 +99,44 @@ fn run_in(
 }
 
 // A good card, run on buffers that are large enough for any.
-fn run_card(card: &[u8], fd: i32) -> Handed
+fn run_card(card: &[u8], store: &mut [u8; Sizes::STORE], fd: i32) -> Handed
     requires { ⌜ Passes (now card) ⌝ }
-    ensures { λ r. ⌜ AllOf (now (card .entry)) r ⌝ }
+    ensures { λ r. ⌜ AllLeft (now (card .entry)) (now (store .exit)) r ⌝ }
 {
     let Headed::Good(heads) = read_heads(card) else {
         return Handed::Lost;
     };
     let mut tops = [0u8; Sizes::TOPS];
-    let mut store = [0u8; Sizes::STORE];
     let mut trace = [0u8; Sizes::TRACE];
-    run_in(heads, card, &mut tops, &mut store, &mut trace, fd)
+    run_in(heads, card, &mut tops, store, &mut trace, fd)
 }
 
 // The one line of a card that is no good.
 fn refuse(card: &[u8], line: u32, fd: i32) -> Handed
     requires { ⌜ StopsAt (now card) line ⌝ }
-    ensures { λ r. ⌜ AllOf (now (card .entry)) r ⌝ }
+    ensures { λ r. ⌜ ((s : List ℕ) → AllLeft (now (card .entry)) s r) ⌝ }
 {
     let mut text = [0u8; Print::LINE];
     let n = put_bad(line, &mut text);
     hand(card, 0, &text[..n], fd)
 }
 
-// The card is checked as a whole before anything is run. Nothing more is written behind a write that failed.
+// The card is checked as a whole before anything is run, and run on the lent store. Nothing more is written behind a write that failed.
+pub fn play_in(card: &[u8], store: &mut [u8; Sizes::STORE], fd: i32) -> Handed
+    ensures { λ r. ⌜ AllLeft (now (card .entry)) (now (store .exit)) r ⌝ }
+    ensures { λ _. ⌜ now (card .exit) ≡ now (card .entry) ⌝ }
+{
+    match check(card) {
+        Verdict::Good => run_card(card, store, fd),
+        Verdict::Bad(line) => refuse(card, line, fd),
+    }
+}
+
+// The same on a store of its own.
 pub fn play(card: &[u8], fd: i32) -> Handed
     ensures { λ r. ⌜ AllOf (now (card .entry)) r ⌝ }
     ensures { λ _. ⌜ now (card .exit) ≡ now (card .entry) ⌝ }
 {
-    match check(card) {
-        Verdict::Good => run_card(card, fd),
-        Verdict::Bad(line) => refuse(card, line, fd),
-    }
+    let mut store = [0u8; Sizes::STORE];
+    play_in(card, &mut store, fd)
 }

@@ -6,6 +6,7 @@ use Rattle.text.specs.Words.{bytes}
 use Rattle.text.specs.Decimal.{tens, decimal, whole}
 use Rattle.print.specs.declared.Out.the-variants.{None, Number, Value}
 use Rattle.print.specs.Printed.{opLine, eventLine, badLine}
+use Rattle.print.specs.Explaining.{bindLine, windLine, shadowedLine, topValueLine}
 
 pub op-4 : opLine (record { op = 4; code = 0; out = Number (pos 0); moves = 3; events = 1 }) ≡ bytes "op=4 code=0 out=0 moves=3 events=1 by=none\n"
 unfolding opLine decimal whole tens
@@ -30,3 +31,20 @@ left = refl
 pub too-long : badLine 0 ≡ bytes "line=0 code=9\n"
 unfolding badLine decimal tens
 too-long = refl
+
+-- the lines of an explanation (document 02, W7)
+pub bound : bindLine 3 0 (Number (negsuc 0)) ≡ bytes "env=3 bind=0,-1\n"
+unfolding bindLine decimal whole tens
+bound = refl
+
+pub wound : windLine 2 10 11 ≡ bytes "env=2 wind=10,11\n"
+unfolding windLine decimal tens
+wound = refl
+
+pub behind : shadowedLine 1 None ≡ bytes "shadowed=1 value=none\n"
+unfolding shadowedLine decimal tens
+behind = refl
+
+pub top-value : topValueLine (Number (pos 1)) ≡ bytes "top=1\n"
+unfolding topValueLine decimal whole tens
+top-value = refl

@@ -9,6 +9,7 @@ ghost use mathlib.Core.List.{_++_};
 ghost use lib.ListN.{length};
 ghost use Rattle.text.specs.Decimal.{decimal};
 ghost use Rattle.print.specs.Printed.{field, outText, byOf, byText, kindText, opLine, eventLine, badLine, longest};
+ghost use Rattle.print.specs.Explaining.{bindLine, windLine, topLine, shadowedLine, topValueLine, unboundLine, Puts};
 ghost use Rattle.print.specs.Writing.{Wrote};
 
 // The longest line.
@@ -18,7 +19,8 @@ impl Print {
     pub const LINE: usize = 96;
 }
 
-// What a call answers: nothing on a refusal, else a number, or a value and the number of its decider.
+// What a call answers: nothing on a refusal, else a number, or a value and the number of its decider. Of what a binding holds: nothing
+// where it is unbound, else a number.
 pub enum Out {
     None,
     Number(i32),
@@ -117,4 +119,77 @@ pub fn put_bad(line: u32, out: &mut [u8; Print::LINE]) -> usize
 {
     let a = put_field(b"line=", line, out, 0);
     put_text(b" code=9\n", out, a)
+}
+
+// The line of a binding: its number, its variable, the value that it holds or none.
+pub fn put_bind(env: u32, x: u32, v: Out, out: &mut [u8; Print::LINE]) -> usize
+    ensures { λ r. ⌜ Wrote (now (out .entry)) 0 (bindLine env x v) (now (out .exit)) r ⌝ }
+    ensures { λ r. ⌜ r ≤ longest ⌝ }
+{
+    let a = put_field(b"env=", env, out, 0);
+    let b = put_field(b" bind=", x, out, a);
+    let c = put_text(b",", out, b);
+    let d = put_out(v, out, c);
+    put_text(b"\n", out, d)
+}
+
+// The line of a wind: its number and its thunks.
+pub fn put_wind(env: u32, p: u32, q: u32, out: &mut [u8; Print::LINE]) -> usize
+    ensures { λ r. ⌜ Wrote (now (out .entry)) 0 (windLine env p q) (now (out .exit)) r ⌝ }
+    ensures { λ r. ⌜ r ≤ longest ⌝ }
+{
+    let a = put_field(b"env=", env, out, 0);
+    let b = put_field(b" wind=", p, out, a);
+    let c = put_field(b",", q, out, b);
+    put_text(b"\n", out, c)
+}
+
+// The line of the top.
+pub fn put_top(out: &mut [u8; Print::LINE]) -> usize
+    ensures { λ r. ⌜ Wrote (now (out .entry)) 0 topLine (now (out .exit)) r ⌝ }
+    ensures { λ r. ⌜ r ≤ longest ⌝ }
+{
+    put_text(b"env=0 top\n", out, 0)
+}
+
+// The line of a binding behind the one that decides: its number, and the value that it holds or none.
+pub fn put_shadowed(env: u32, v: Out, out: &mut [u8; Print::LINE]) -> usize
+    ensures { λ r. ⌜ Wrote (now (out .entry)) 0 (shadowedLine env v) (now (out .exit)) r ⌝ }
+    ensures { λ r. ⌜ r ≤ longest ⌝ }
+{
+    let a = put_field(b"shadowed=", env, out, 0);
+    let b = put_text(b" value=", out, a);
+    let c = put_out(v, out, b);
+    put_text(b"\n", out, c)
+}
+
+// The line of the top value, or none.
+pub fn put_top_value(v: Out, out: &mut [u8; Print::LINE]) -> usize
+    ensures { λ r. ⌜ Wrote (now (out .entry)) 0 (topValueLine v) (now (out .exit)) r ⌝ }
+    ensures { λ r. ⌜ r ≤ longest ⌝ }
+{
+    let a = put_text(b"top=", out, 0);
+    let b = put_out(v, out, a);
+    put_text(b"\n", out, b)
+}
+
+// The last line where no value was found.
+pub fn put_unbound(out: &mut [u8; Print::LINE]) -> usize
+    ensures { λ r. ⌜ Wrote (now (out .entry)) 0 unboundLine (now (out .exit)) r ⌝ }
+    ensures { λ r. ⌜ r ≤ longest ⌝ }
+{
+    put_text(b"unbound\n", out, 0)
+}
+
+// A line put behind a place of a text; where the text has no room for it there, nothing is put.
+pub fn put_line(line: &[u8], out: &mut [u8], at: usize) -> usize
+    ensures { λ r. ⌜ Puts (now (line .entry)) (now (out .entry)) at (now (out .exit)) r ⌝ }
+{
+    if out.len() < at {
+        return at;
+    }
+    if out.len() - at < line.len() {
+        return at;
+    }
+    put_text(line, out, at)
 }

@@ -1,5 +1,5 @@
 -- Document 01, "The numbers a call can give back": the number and the values of every answer; document 02, W2: the decider of a
--- value; W5: what a step hands over. Assumes nothing: these are definitions.
+-- value; W5: what a step hands over; W7: what an environment is. Assumes nothing: these are definitions.
 use Prim.Native.Nat.{ℕ}
 use mathlib.Core.Bool.{Bool, true, false}
 use mathlib.Core.Option.{Option, none, some}
@@ -7,6 +7,8 @@ use mathlib.Core.List.{List, [], _∷_}
 use lib.IntN.{ℤ, pos}
 use lib.ListN.{length}
 use Rattle.rules.specs.Basic.{orTop}
+use Rattle.rules.specs.Tree.{What, blank, top, binding, wind}
+use Rattle.rules.specs.Values.{Cell, unbound, value}
 use Rattle.rules.specs.Moves.{Event}
 use Rattle.layout.specs.Events.{bit}
 use Rattle.promises.specs.declared.New.{New}
@@ -18,6 +20,7 @@ use Rattle.promises.specs.declared.Answer.the-variants.{Opened, Number, 
 use Rattle.promises.specs.declared.Refusal.{Refusal}
 use Rattle.promises.specs.declared.Refusal.the-variants.{Setup, Damaged, NoVariable, NoEnvironment, Unbound, Full, TraceRoom, Top, Walking, NotWalking}
 use Rattle.promises.specs.declared.Flat.{Flat}
+use Rattle.promises.specs.declared.Told.{Told}
 use Rattle.rules.specs.Refusals.{setup, damaged, noVariable, noEnvironment, noValue, full, traceRoom, atTop, walking, notWalking}
 
 -- the number of the answer, the answer itself, the moves, the number of events; for a value the number of the environment whose
@@ -75,3 +78,19 @@ isSome (some n) = true
 
 unfoldable pub flat : Numbers → Flat
 flat n = record { out = n .out; code = n .code; moves = n .moves; events = n .events; by = orTop (n .by); decided = isSome (n .by); event = n .event; thunk = n .thunk }
+
+-- ---- what an environment is: its kind 1 the top, 2 a binding, 3 a wind, its parent p, and what it binds or which thunks it has
+-- a refusal tells nothing beside its number
+abbrev pub untold : ℕ → Told
+untold n = record { value = pos 0; code = n; kind = 0; parent = 0; first = 0; second = 0; state = 0 }
+
+abbrev pub tellBinding : ℕ → ℕ → Cell → Told
+tellBinding p x unbound = record { value = pos 0; code = 0; kind = 2; parent = p; first = x; second = 0; state = 0 }
+tellBinding p x (value v) = record { value = v; code = 0; kind = 2; parent = p; first = x; second = 0; state = 1 }
+
+-- `own x` is the value of x there, for a binding of x its own value; a blank number is no environment
+abbrev pub telling : What → ℕ → (ℕ → Cell) → Told
+telling blank p own = untold noEnvironment
+telling top p own = record { value = pos 0; code = 0; kind = 1; parent = 0; first = 0; second = 0; state = 0 }
+telling (binding x) p own = tellBinding p x (own x)
+telling (wind pre post) p own = record { value = pos 0; code = 0; kind = 3; parent = p; first = pre; second = post; state = 0 }

@@ -1,5 +1,5 @@
 -- The calls on a store under one name, so that what holds of all of them is said once: each call's promise, its table, and
--- what it says of a call that is done. Open stands alone. From document 01, "What each call does". Assumes nothing.
+-- what it says of a call that is done. Open and tell stand alone. From document 01, "What each call does". Assumes nothing.
 use mathlib.Core.Path.{_≡_, refl, sym, ap, _∙_}
 use mathlib.Core.Logic.{_⊎_, inl, inr}
 use mathlib.Core.Bool.{true, false}
@@ -15,7 +15,7 @@ use Rattle.rules.specs.Moves.{Event, windEvent}
 use Rattle.rules.specs.Act.{Ask, Child, Goal, Stride, Call, Free, Barred, Needing, steps, drops, Size, Shown, shown, whatOf, ownOf, eventsOf, Ground, grounds, rowOf, rows}
 use Rattle.rules.specs.Effects.{NewNode}
 use Rattle.rules.specs.Refusals as refusals
-use Rattle.rules.specs.Refusals.{setup, damaged}
+use Rattle.rules.specs.Refusals.{setup, damaged, noEnvironment}
 use Rattle.rules.specs.Demands.{ground-known}
 use Rattle.rules.specs.Grounds.{each-call, free-rise, RisesBehind, barred-first}
 use Rattle.layout.specs.Limits.{noneN}
@@ -23,11 +23,12 @@ use Rattle.layout.specs.Records.{focus, target}
 use Rattle.layout.specs.Sound.{Sound}
 use Rattle.layout.specs.Becomes.{Sized, Kept}
 use Rattle.layout.specs.laws.WalkLaws.{sized-self}
-use Rattle.layout.specs.Made.{nextOf}
+use Rattle.layout.specs.Made.{IsMade, nextOf}
 use Rattle.layout.specs.Events.{eventsB, told, eventsTo}
-use Rattle.promises.specs.Answers.{Numbers, refusal}
+use Rattle.promises.specs.declared.Told.{Told}
+use Rattle.promises.specs.Answers.{Numbers, refusal, untold}
 use Rattle.promises.specs.Tables.{Row, row, First, RisingFrom, Rising, rising-more, Lowest, lowest-beside, Above, first-lowest}
-use Rattle.promises.specs.Promises.{meaning, world, at, Answers, damagedRow, variableRow, environmentRow, valueRow, fullRow, roomRow, topRow, walkingRow, notWalkingRow, Told, Shows, LookPromise, PeekPromise, HerePromise, FarDone, FarPromise, SetDone, SetPromise, BindDone, BindPromise, WindDone, WindPromise, SwitchDone, parentAt, GotoPromise, BackPromise, StrideDone, BeginPromise, StepPromise, DropPromise, Openable, Opened, OpenPromise}
+use Rattle.promises.specs.Promises.{meaning, world, at, Answers, damagedRow, variableRow, environmentRow, valueRow, fullRow, roomRow, topRow, walkingRow, notWalkingRow, DoneWith, Shows, LookPromise, PeekPromise, HerePromise, FarDone, FarPromise, tells, TellPromise, SetDone, SetPromise, BindDone, BindPromise, WindDone, WindPromise, SwitchDone, parentAt, GotoPromise, BackPromise, StrideDone, BeginPromise, StepPromise, DropPromise, Openable, Opened, OpenPromise}
 use Rattle.promises.specs.Stable.{sound-stable}
 
 -- what is promised of the call c from the store s and the trace t to s′ and t′, with the numbers n; where no trace is lent,
@@ -78,13 +79,13 @@ table c s t = map (rowAt s t (eventsIn c s)) (grounds c)
 -- what an ask answers
 abbrev pub AskDone : Ask → List ℕ → Numbers → Type 0
 AskDone (Ask.look x) s n = Shows s (focus s) x n
-AskDone Ask.here s n = Told n (pos (focus s)) 0 0
+AskDone Ask.here s n = DoneWith n (pos (focus s)) 0 0
 AskDone (Ask.peek a x) s n = Shows s a x n
 AskDone (Ask.far a b) s n = FarDone s a b n
 
 -- what BindDone and WindDone say, of any new node
 pub record MakeDone (k : Child) (s t s′ t′ : List ℕ) (n : Numbers) : Type 0 where
-  pub answer : Told n (pos (nextOf s)) 0 (length (eventsIn (Call.make k) s))
+  pub answer : DoneWith n (pos (nextOf s)) 0 (length (eventsIn (Call.make k) s))
   pub sound : Sound s′
   pub kept : Kept s s′
   pub new : NewNode (meaning s) (meaning s′) (nextOf s) (whatOf k)
@@ -269,3 +270,31 @@ module _ (v k : ℕ) (tops s s′ : List ℕ) (n : Numbers) (p : OpenPromise v k
       go : First (row setup (Openable v k tops s → ⊥) ∷ []) (n .code) → (n ≡ refusal setup) × (s′ ≡ s)
       go (inl (e, h)) = let (a, b) = p .answers .refused (omega arith) in (a ∙ ap refusal (sym e), b)
       go (inr (never, e)) = absurd (never bad)
+
+-- ---- tell: refused by its rows, else what the environment is
+module _ (s : List ℕ) (a : ℕ) (s′ : List ℕ) (n : Told) (p : TellPromise s a s′ n) where
+  untold-by : {k : ℕ} → 1 ≤ k → k ≡ n .code → n ≡ untold k
+  untold-by {k} low e = p .refused (omega arith) ∙ ap untold (sym e)
+
+  pub tell-damaged : (Sound s → ⊥) → n ≡ untold damaged
+  tell-damaged bad = go (p .first)
+    where
+      go : First (damagedRow s ∷ environmentRow s a ∷ []) (n .code) → n ≡ untold damaged
+      go (inl (e, w)) = untold-by (omega arith) e
+      go (inr (never, f)) = absurd (never bad)
+
+  pub tell-unmade : Sound s → (IsMade s a → ⊥) → n ≡ untold noEnvironment
+  tell-unmade ok un = go (p .first)
+    where
+      go : First (damagedRow s ∷ environmentRow s a ∷ []) (n .code) → n ≡ untold noEnvironment
+      go (inl (e, bad)) = absurd (bad ok)
+      go (inr (never, inl (e, w))) = untold-by (omega arith) e
+      go (inr (never, inr (off, e))) = absurd (off un)
+
+  pub tell-made : Sound s → IsMade s a → n ≡ tells s a
+  tell-made ok m = go (p .first)
+    where
+      go : First (damagedRow s ∷ environmentRow s a ∷ []) (n .code) → n ≡ tells s a
+      go (inl (e, bad)) = absurd (bad ok)
+      go (inr (never, inl (e, un))) = absurd (un m)
+      go (inr (never, inr (off, e))) = p .done e

@@ -31,7 +31,8 @@ use Rattle.layout.specs.Becomes.{Sized, Kept}
 use Rattle.layout.specs.Opening.{OpenFits}
 use Rattle.layout.specs.Events.{told}
 use Rattle.layout.specs.Events.{eventsTo}
-use Rattle.promises.specs.Answers.{Numbers, refusal, done, seen, handing}
+use Rattle.promises.specs.declared.Told.{Told}
+use Rattle.promises.specs.Answers.{Numbers, refusal, done, seen, handing, untold, telling}
 use Rattle.promises.specs.Tables.{Row, row, First}
 
 -- what a store means: the deep store of TR397's Figure 2, with the top values
@@ -61,8 +62,8 @@ pub record Answers (rows : List Row) (n : Numbers) (Same Done : Type 0) : Type 0
   pub done : n .code ≡ 0 → Done
 
 -- done, with this answer, these moves and so many events
-abbrev pub Told : Numbers → ℤ → ℕ → ℕ → Type 0
-Told n o m e = n ≡ done o m e
+abbrev pub DoneWith : Numbers → ℤ → ℕ → ℕ → Type 0
+DoneWith n o m e = n ≡ done o m e
 
 -- done, with the value of x at a and the number of its decider
 abbrev pub Shows : List ℕ → ℕ → ℕ → Numbers → Type 0
@@ -107,7 +108,7 @@ pub record Openable (v n : ℕ) (tops s : List ℕ) : Type 0 where
 
 -- only the top is made and is the focus; every variable has its top cell; the rest of the buffer is as it was
 pub record Opened (v n : ℕ) (tops s s′ : List ℕ) (out : Numbers) : Type 0 where
-  pub answer : Told out (pos 0) 0 0
+  pub answer : DoneWith out (pos 0) 0 0
   pub sound : Sound s′
   pub vars : vars s′ ≡ v
   pub nodes : room s′ ≡ n
@@ -132,19 +133,30 @@ pub record PeekPromise (s : List ℕ) (a x : ℕ) (s′ : List ℕ) (n : Numbers
 
 pub record HerePromise (s s′ : List ℕ) (n : Numbers) : Type 0 where
   pub same : s′ ≡ s
-  pub answers : Answers (damagedRow s ∷ []) n (Unit {0}) (Told n (pos (focus s)) 0 0)
+  pub answers : Answers (damagedRow s ∷ []) n (Unit {0}) (DoneWith n (pos (focus s)) 0 0)
 
 -- how far a and b are apart: demand 3's number, with nothing moved
 abbrev pub FarDone : List ℕ → ℕ → ℕ → Numbers → Type 0
-FarDone s a b n = (k : ℕ) × Told n (pos k) 0 0 × Between (view s .tree) a b k
+FarDone s a b n = (k : ℕ) × DoneWith n (pos k) 0 0 × Between (view s .tree) a b k
 
 pub record FarPromise (s : List ℕ) (a b : ℕ) (s′ : List ℕ) (n : Numbers) : Type 0 where
   pub same : s′ ≡ s
   pub answers : Answers (damagedRow s ∷ environmentRow s a ∷ environmentRow s b ∷ []) n (Unit {0}) (FarDone s a b n)
 
+-- ---- tell (document 02, W7): what the environment a is, and its parent; a binding decides its own variable, so its own value is
+-- the value at a
+abbrev pub tells : List ℕ → ℕ → Told
+tells s a = telling (view s .tree .what a) (orTop (view s .tree .up a)) (at s a)
+
+pub record TellPromise (s : List ℕ) (a : ℕ) (s′ : List ℕ) (n : Told) : Type 0 where
+  pub same : s′ ≡ s
+  pub first : First (damagedRow s ∷ environmentRow s a ∷ []) (n .code)
+  pub refused : 1 ≤ n .code → n ≡ untold (n .code)
+  pub done : n .code ≡ 0 → n ≡ tells s a
+
 -- ---- the calls that change the store leave a sound store of the same size, and no byte past the size changed
 pub record SetDone (s : List ℕ) (x : ℕ) (v : ℤ) (s′ : List ℕ) (n : Numbers) : Type 0 where
-  pub answer : Told n (pos (focus s)) 0 0
+  pub answer : DoneWith n (pos (focus s)) 0 0
   pub sound : Sound s′
   pub kept : Kept s s′
   pub effect : SetTo (meaning s) (meaning s′) x (value v)
@@ -154,7 +166,7 @@ pub record SetPromise (s : List ℕ) (x : ℕ) (v : ℤ) (s′ : List ℕ) (n : 
 
 -- a new node, number = made, child of the focus, becomes the focus; every other environment is as it was
 pub record BindDone (s : List ℕ) (x : ℕ) (v : ℤ) (s′ : List ℕ) (n : Numbers) : Type 0 where
-  pub answer : Told n (pos (nextOf s)) 0 0
+  pub answer : DoneWith n (pos (nextOf s)) 0 0
   pub sound : Sound s′
   pub kept : Kept s s′
   pub new : NewNode (meaning s) (meaning s′) (nextOf s) (binding x)
@@ -169,7 +181,7 @@ abbrev pub entering : List ℕ → ℕ → List Event
 entering s p = record { entering = true; thunk = p; place = focus s } ∷ []
 
 pub record WindDone (s t : List ℕ) (p q : ℕ) (s′ t′ : List ℕ) (n : Numbers) : Type 0 where
-  pub answer : Told n (pos (nextOf s)) 0 1
+  pub answer : DoneWith n (pos (nextOf s)) 0 1
   pub sound : Sound s′
   pub kept : Kept s s′
   pub new : NewNode (meaning s) (meaning s′) (nextOf s) (wind p q)
@@ -183,7 +195,7 @@ pub record WindPromise (s t : List ℕ) (p q : ℕ) (s′ t′ : List ℕ) (n : 
 pub record SwitchDone (s t : List ℕ) (a : ℕ) (s′ t′ : List ℕ) (n : Numbers) : Type 0 where
   pub moves : List Move
   pub events : List Event
-  pub answer : Told n (pos a) (length moves) (length events)
+  pub answer : DoneWith n (pos a) (length moves) (length events)
   pub sound : Sound s′
   pub kept : Kept s s′
   pub switched : Switched (view s) (view s′) a moves (length moves) events

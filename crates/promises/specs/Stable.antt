@@ -15,6 +15,7 @@ use Rattle.rules.specs.Leg.{Handed, Walking}
 use Rattle.layout.specs.Fields.{fieldsOf, focusF}
 use Rattle.layout.specs.View.{treeF, walkF}
 use Rattle.layout.specs.Sound.{NodeOk, Whole, Sound}
+use Rattle.layout.specs.Made.{IsMade}
 
 between : (lo k hi : ℕ) → Dec ((lo ≤ k) × (k ≤ hi))
 between lo k hi = go (decLe lo k) (decLe k hi)
@@ -106,3 +107,8 @@ sound-stable s twice = record {
     only = λ e. numbers twice (λ p. p .walk .only e);
   };
 }
+
+-- so is an environment of which it is refuted that it is not made
+pub made-stable : (s : List ℕ) (a : ℕ) → ((IsMade s a → ⊥) → ⊥) → IsMade s a
+unfolding IsMade
+made-stable s a twice = tested twice (decLe _ _) (λ p. p)

@@ -2,7 +2,7 @@
 ghost use mathlib.Core.Path.{_≡_};
 ghost use lib.IntN.{pos};
 ghost use mathlib.Core.Bool.{true, false};
-ghost use Rattle.promises.specs.Answers.{numberOf, numbers, flat};
+ghost use Rattle.promises.specs.Answers.{numberOf, numbers, flat, untold};
 
 // A new environment, and the events of making it.
 pub struct New {
@@ -56,6 +56,18 @@ pub enum Answer {
     Switched(Switch),
     Stepped(Step),
     Refused(Refusal),
+}
+
+// What an environment is, beside code 0: kind 1 the top; 2 a binding, first its variable, value its own value where state is 1;
+// 3 a wind, first its prelude, second its postlude; and its parent. What does not apply is 0, as all is beside a refusal's number.
+pub struct Told {
+    pub value: i32,
+    pub code: u16,
+    pub kind: u16,
+    pub parent: u16,
+    pub first: u16,
+    pub second: u16,
+    pub state: u16,
 }
 
 // Document 01's numbers of an answer: the answer itself, its number, the moves, the number of events; of a value the decider,
@@ -164,5 +176,20 @@ pub fn numbers_of(a: Answer) -> Flat
         Answer::Switched(w) => done(w.focus, w.moves, w.events),
         Answer::Stepped(w) => handing(w),
         Answer::Refused(r) => refused(number_of(r)),
+    }
+}
+
+// A refusal tells nothing beside its number.
+pub fn untold(r: Refusal) -> Told
+    ensures { λ n. ⌜ n ≡ untold (numberOf r) ⌝ }
+{
+    Told {
+        value: 0,
+        code: number_of(r),
+        kind: 0,
+        parent: 0,
+        first: 0,
+        second: 0,
+        state: 0,
     }
 }

@@ -1,3 +1,4 @@
 pub mod Signs
 pub mod Keeps
 pub mod Strides
+pub mod Tells

@@ -1,4 +1,4 @@
-// The store: bindings and winds on a tree in lent bytes, and the walk of its focus. Thirteen calls, and nothing else is public.
+// The store: bindings and winds on a tree in lent bytes, and the walk of its focus. Fourteen calls, and nothing else is public.
 ghost use mathlib.Core.Path.{_≡_};
 ghost use mathlib.Core.Bool.{false};
 ghost use mathlib.Core.List.{[], _∷_};
@@ -14,13 +14,15 @@ ghost use Rattle.layout.specs.Events.{eventsTo};
 ghost use Rattle.promises.specs.declared.Answer.the-variants as Answer;
 ghost use Rattle.promises.specs.Answers.{numbers};
 ghost use Rattle.store.specs.Cells.{ofCell};
-ghost use Rattle.promises.specs.Promises.{entering, roomRow, Switches, Openable, OpenPromise, BindPromise, WindPromise, LookPromise, SetPromise, HerePromise, GotoPromise, BackPromise, PeekPromise, FarPromise, BeginPromise, StepPromise, DropPromise};
+ghost use Rattle.promises.specs.Promises.{entering, roomRow, Switches, Openable, OpenPromise, BindPromise, WindPromise, LookPromise, SetPromise, HerePromise, GotoPromise, BackPromise, PeekPromise, FarPromise, TellPromise, BeginPromise, StepPromise, DropPromise};
 use layout::Store;
 use promises::Answer;
 use promises::New;
 use promises::Refusal;
 use promises::Seen;
 use promises::Switch;
+use promises::Told;
+use promises::untold;
 
 mod apart;
 mod check;
@@ -33,6 +35,7 @@ mod read;
 mod records;
 mod stride;
 mod trace;
+mod what;
 
 // A cell as an answer: its value with the decider, or that it has none.
 fn answered(c: [u8; Store::BARE], by: usize) -> Answer
@@ -170,6 +173,20 @@ pub fn far(s: &[u8], a: u32, b: u32) -> Answer
         return Answer::Refused(Refusal::NoEnvironment);
     }
     Answer::Number(apart::between(s, c, d) as u16)
+}
+
+// What the environment a is, with nothing moved.
+pub fn tell(s: &[u8], a: u32) -> Told
+    ensures { λ r. ⌜ TellPromise (now (s .entry)) a (now (s .exit)) r ⌝ }
+{
+    if !check::sound(s) {
+        return untold(Refusal::Damaged);
+    }
+    let b = a as usize;
+    if !made::is_made(s, b) {
+        return untold(Refusal::NoEnvironment);
+    }
+    what::environment(s, b)
 }
 
 // A wind and its one event, entering p at the focus.

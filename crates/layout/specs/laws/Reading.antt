@@ -13,18 +13,18 @@ use lib.Dec.{eqb}
 use lib.ListN.{length}
 use borrow.Author.Tests.{ne-eqb, lt-leb, le-leb}
 use Rattle.rules.specs.Basic.{clash, eqb-self, on, on-cases, orTop}
-use Rattle.rules.specs.Tree.{What, blank, top, wind, Proper, binds, path, path-top, path-up}
+use Rattle.rules.specs.Tree.{What, blank, top, binding, wind, Proper, binds, path, path-top, path-up}
 use Rattle.rules.specs.Values.{valueBy, isAt, below, seek, orSeen, seek-below}
 use Rattle.rules.specs.Store.{home}
 use Rattle.rules.specs.Calls.{deciderAt, valueAt, peekOf, peek-shows}
 use Rattle.layout.specs.Records.{vars, room, focus, blankCell, ProperCell, cellOf, bareC, nodeOf, kindN, parentN, varN, postN, storedN, topNode}
-use Rattle.layout.specs.Kinds.{within, byKind, isOut, IsBinding}
+use Rattle.layout.specs.Kinds.{within, byKind, isOut, IsBinding, IsWind, IsNode}
 use Rattle.layout.specs.Fields.{nodes, fieldsOf, Fit}
 use Rattle.layout.specs.View.{asCell, whatN, upN, treeF, viewF, view}
 use Rattle.layout.specs.Sound.{NodeOk, depthAbove, Whole}
 use Rattle.layout.specs.Made.{IsMade}
 use Rattle.layout.specs.laws.Laws.{node-in, cell-in}
-use Rattle.layout.specs.laws.SoundLaws.{what-binding, up-node, up-top, sound-fit, sound-headed, sound-view, shape-inners}
+use Rattle.layout.specs.laws.SoundLaws.{what-binding, what-wind, what-top, up-node, up-top, sound-fit, sound-headed, sound-view, shape-inners}
 use Rattle.layout.specs.laws.MoveLaws.{inner}
 use Rattle.layout.specs.laws.WalkLaws.{made-seen, made-room, focus-made, out-up, in-above, parent-made}
 
@@ -90,6 +90,19 @@ stored-top : storedN topNode ≡ blankCell
 unfolding storedN topNode
 stored-top = refl
 
+kind-top : kindN topNode ≡ 1
+unfolding kindN topNode
+kind-top = refl
+
+-- number 0 is the top, and has no parent
+pub top-what : (s : List ℕ) → Whole s → view s .tree .what 0 ≡ top
+unfolding view viewF treeF fieldsOf
+top-what s ok = ap whatN (ok .fields .shape .top) ∙ what-top
+
+pub top-up : (s : List ℕ) → Whole s → view s .tree .up 0 ≡ none
+unfolding view viewF treeF fieldsOf
+top-up s ok = ap upN (ok .fields .shape .top) ∙ up-top
+
 -- ---- the made nodes of a sound store
 module _ (s : List ℕ) (ok : Whole s) where
   pub fit-made : (n : ℕ) → IsMade s n → Fit s × (n < room s)
@@ -125,10 +138,46 @@ module _ (s : List ℕ) (ok : Whole s) where
   unfolding view viewF treeF fieldsOf
   what-is n m = ap whatN (node-made n m)
 
+  -- ---- what an environment is, by its kind: a binding and a wind are under their parent, any other is the top
+  kind-inner : (n : ℕ) → IsMade s n → 2 ≤ kindN (nodeOf s n) → 1 ≤ n
+  kind-inner n m h = go (ℕ-discrete n 0)
+    where
+      go : Dec (n ≡ 0) → 1 ≤ n
+      go (yes z) = absurd (omega (arith, ap (λ (k : ℕ). kindN (nodeOf s k)) z ∙ ap kindN top-is ∙ kind-top))
+      go (no z) = omega arith
+
+  pub up-under : (n : ℕ) → IsMade s n → 2 ≤ kindN (nodeOf s n) → orTop (view s .tree .up n) ≡ parentN (nodeOf s n)
+  up-under n m h = ap orTop (up-is n (kind-inner n m h) m)
+
+  pub binding-is : (n : ℕ) → IsMade s n → IsBinding (kindN (nodeOf s n)) → (view s .tree .what n ≡ binding (varN (nodeOf s n))) × (varN (nodeOf s n) < vars s)
+  binding-is n m is = (what-is n m ∙ what-binding (nodeOf s n) is, inner-ok n (kind-inner n m (is .0)) m .var is)
+
+  pub binding-up : (n x : ℕ) → view s .tree .what n ≡ binding x → (p : ℕ) × (view s .tree .up n ≡ some p)
+  binding-up n x is = go (view s .tree .up n) refl
+    where
+      no-blank : view s .tree .what n ≢ blank
+      no-blank e = let z : _≡_ {A = ℕ} 0 1 = cc in omega arith
+
+      no-top : view s .tree .what n ≢ top
+      no-top e = let z : _≡_ {A = ℕ} 0 1 = cc in omega arith
+
+      go : (o : Option ℕ) → view s .tree .up n ≡ o → (p : ℕ) × (view s .tree .up n ≡ some p)
+      go none e = absurd (no-top (ap (view s .tree .what) (proper .one-top n no-blank e) ∙ top-what s ok))
+      go (some p) e = (p, e)
+
+  pub wind-is : (n : ℕ) → IsMade s n → IsWind (kindN (nodeOf s n)) → view s .tree .what n ≡ wind (varN (nodeOf s n)) (postN (nodeOf s n))
+  wind-is n m is = what-is n m ∙ what-wind (nodeOf s n) is
+
+  pub else-top : (n : ℕ) → IsMade s n → (IsNode (kindN (nodeOf s n)) → ⊥) → view s .tree .what n ≡ top
+  else-top n m other = go (ℕ-discrete n 0)
+    where
+      go : Dec (n ≡ 0) → view s .tree .what n ≡ top
+      go (yes z) = ap (view s .tree .what) z ∙ top-what s ok
+      go (no z) = absurd (other (inner-ok n (omega arith) m .node))
+
   -- the path of the top and of any other made node
   path-none : path (view s .tree) 0 ≡ []
-  unfolding view viewF treeF fieldsOf
-  path-none = path-top (view s .tree) proper 0 (ap upN (node-made 0 top-made ∙ top-is) ∙ up-top)
+  path-none = path-top (view s .tree) proper 0 (top-up s ok)
 
   path-next : (n : ℕ) → 1 ≤ n → IsMade s n → path (view s .tree) n ≡ n ∷ path (view s .tree) (parentN (nodeOf s n))
   path-next n l m = path-up (view s .tree) proper n (parentN (nodeOf s n)) (up-is n l m)
@@ -283,8 +332,3 @@ module _ (s : List ℕ) (ok : Whole s) where
   -- ---- so what is found is the deep rule's value
   pub found-at : {a x n : ℕ} {c : List ℕ} → binderOf n ≡ deciderAt (view s .tree) a x → IsMade s n → asCell c ≡ peekOf (view s) x (binderOf n) → ProperCell c → FoundAt s a x n c
   found-at {a} {x} {n} {c} by made e p = record { by = by; made = made; value = e ∙ ap (peekOf (view s) x) by ∙ peek-shows (view s) (sound-view s ok) a x; proper = p }
-
--- the top has no parent
-pub top-up : (s : List ℕ) → Whole s → view s .tree .up 0 ≡ none
-unfolding view viewF treeF fieldsOf
-top-up s ok = ap upN (ok .fields .shape .top) ∙ up-top

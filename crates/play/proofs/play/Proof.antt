@@ -1,38 +1,15 @@
 -- `play::play` meets its contract. Assumes nothing.
 use mathlib.Core.Path.{refl}
+use Rattle.play.proofs.Stepping.{left-all}
 use borrow.Author.Needs.{needs}
 use Rattle.play.proofs.play.Statement.{statement}
 use Rattle.play.proofs.play.Tie as tie
 
-check-requires : tie.Need-check-requires
-check-requires c κs = search needs
-
-enum-told : tie.Need-enum-told
-enum-told c = search needs
-
-run-card-requires : tie.Need-run-card-requires
-run-card-requires c κs = (rw (c .enum-told .given .1) at (c .before .before .check .ensures .0)) .good refl
-
-enum-known-line : tie.Need-enum-known-line
-enum-known-line c = search needs
-
-refuse-requires : tie.Need-refuse-requires
-refuse-requires c κs = (rw (c .before .line .given .1) at (c .before .before .before .check .ensures .0)) .bad refl
+play-in-requires : tie.Need-play-in-requires
+play-in-requires c κs = search needs
 
 returns : tie.Need-returns
-returns c = (c .run-card .ensures, refl)
-
-returns-2 : tie.Need-returns-2
-returns-2 c = (c .refuse .ensures, refl)
+returns c = (left-all _ _ (c .play-in .result) (c .play-in .ensures .0), refl)
 
 pub play-spec : {M : Type 1} → statement M
-play-spec =
-    tie.close
-    (tie.spec
-    check-requires
-    enum-told
-    run-card-requires
-    enum-known-line
-    refuse-requires
-    returns
-    returns-2)
+play-spec = tie.close (tie.spec play-in-requires returns)

@@ -2,7 +2,7 @@
 use mathlib.Core.Path.{ap, _∙_}
 use native.Mathlib.Omega.{arith}
 use lib.ListN.{length}
-use Rattle.play.specs.Output.{bad}
+use Rattle.play.specs.Output.{refused}
 use Rattle.play.proofs.Texts.{ends-within, line-long, front}
 use Rattle.play.proofs.Stepping.{bad-stands, handed-all}
 use borrow.Author.Needs.{needs}
@@ -22,7 +22,7 @@ hand-requires : tie.Need-hand-requires
 hand-requires c κs = (bad-stands (c .before .before .before .before .args .line) (c .before .before .before .before .pre) (front (c .before .put-bad .ensures .0)), omega (arith, line-long (c .before .put-bad .ensures .0), c .before .put-bad .ensures .1))
 
 returns : tie.Need-returns
-returns c = handed-all (c .hand .result) (c .hand .ensures) (omega (arith, ap length (front (c .before .before .put-bad .ensures .0)))) (bad (c .before .before .before .before .before .args .line) (c .before .before .before .before .before .pre))
+returns c = λ s. handed-all (c .hand .result) (c .hand .ensures) (omega (arith, ap length (front (c .before .before .put-bad .ensures .0)))) (omega (arith, line-long (c .before .before .put-bad .ensures .0), c .before .before .put-bad .ensures .1)) (refused (c .before .before .before .before .before .args .line) (c .before .before .before .before .before .pre))
 
 pub refuse-spec : {M : Type 1} → statement M
 refuse-spec =

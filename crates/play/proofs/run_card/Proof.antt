@@ -23,14 +23,11 @@ slice-aggregate-run-in c = search needs
 slice-aggregate-run-in-2 : tie.Need-slice-aggregate-run-in-2
 slice-aggregate-run-in-2 c = search needs
 
-slice-aggregate-run-in-3 : tie.Need-slice-aggregate-run-in-3
-slice-aggregate-run-in-3 c = search needs
-
 run-in-requires : tie.Need-run-in-requires
 run-in-requires c κs = heads-begun (c .before .before .before .before .before .before .before .before .pre) (c .before .before .before .before .before .before .read-heads .result) _ (c .before .before .before .before .heads .given .1) (c .before .before .before .before .before .before .read-heads .ensures) _ _ _ (omega arith) (omega arith) (omega arith)
 
 returns-2 : tie.Need-returns-2
-returns-2 c = c .before .before .before .run-in .ensures
+returns-2 c = search needs
 
 pub run-card-spec : {M : Type 1} → statement M
 run-card-spec =
@@ -42,6 +39,5 @@ run-card-spec =
     returns
     slice-aggregate-run-in
     slice-aggregate-run-in-2
-    slice-aggregate-run-in-3
     run-in-requires
     returns-2)

@@ -5,7 +5,7 @@ use lib.ListN.{length}
 use lib.Seq.{length-take-le}
 use borrow.Author.Tests.{not-true, not-false}
 use Rattle.play.specs.Steps.{pageBytes, toGo}
-use Rattle.play.proofs.Stepping.{Writing, writing-none, writing-more, falls, page-fits, page-stands, all-printed, handed-to}
+use Rattle.play.proofs.Stepping.{Writing, writing-none, writing-more, falls, page-fits, page-stands, all-printed, handed-to, output-fits}
 use borrow.Author.Needs.{needs}
 use Rattle.play.proofs.write_pages.Statement.{statement}
 use Rattle.play.proofs.write_pages.Tie as tie
@@ -71,7 +71,7 @@ same-length-4 : tie.Need-same-length-4 Inv-loop μ-loop
 same-length-4 c = c .before .before .loop .inv .3
 
 returns-2 : tie.Need-returns-2 Inv-loop μ-loop
-returns-2 c = (c .before .before .loop .inv .0 .before, all-printed (c .before .before .loop .inv .0 .so-far) (c .before .is-ended .ensures .holds (not-false _ (c .if1 .left))), sym (c .before .before .loop .inv .0 .count))
+returns-2 c = (c .before .before .loop .inv .0 .before, all-printed (c .before .before .loop .inv .0 .so-far) (c .before .is-ended .ensures .holds (not-false _ (c .if1 .left))), sym (c .before .before .loop .inv .0 .count), output-fits (c .before .before .loop .inv .0) (c .before .before .before .before .before .before .pre .0))
 
 pub write-pages-spec : {M : Type 1} → statement M
 write-pages-spec =

@@ -15,8 +15,8 @@ head-requires c κs = search needs
 loop-holds : tie.Need-loop-holds Inv-loop μ-loop
 loop-holds c = search needs
 
-row-agrees-requires : tie.Need-row-agrees-requires Inv-loop μ-loop
-row-agrees-requires c κs = search needs
+place-agrees-requires : tie.Need-place-agrees-requires Inv-loop μ-loop
+place-agrees-requires c κs = search needs
 
 returns : tie.Need-returns Inv-loop μ-loop
 returns c = search needs
@@ -41,7 +41,7 @@ all-agree-spec =
     μ-loop
     head-requires
     loop-holds
-    row-agrees-requires
+    place-agrees-requires
     returns
     add-a
     loop-less

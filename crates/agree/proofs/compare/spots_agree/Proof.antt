@@ -27,8 +27,8 @@ head-requires-2 c κs = search needs
 draw-requires-2 : tie.Need-draw-requires-2 Inv-loop μ-loop
 draw-requires-2 c κs = search needs
 
-value-agrees-requires : tie.Need-value-agrees-requires Inv-loop μ-loop
-value-agrees-requires c κs = search needs
+spot-agrees-requires : tie.Need-spot-agrees-requires Inv-loop μ-loop
+spot-agrees-requires c κs = search needs
 
 returns : tie.Need-returns Inv-loop μ-loop
 returns c = search needs
@@ -60,7 +60,7 @@ spots-agree-spec =
     draw-requires
     head-requires-2
     draw-requires-2
-    value-agrees-requires
+    spot-agrees-requires
     returns
     next-requires-2
     add-i

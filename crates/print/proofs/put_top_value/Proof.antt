@@ -1,0 +1,36 @@
+-- `print::put_top_value` meets its contract. Assumes nothing.
+use Rattle.print.specs.Explaining.{topValueLine}
+use Rattle.print.specs.Writing.{wrote-more}
+use borrow.Author.Needs.{needs}
+use Rattle.print.proofs.put_top_value.Statement.{statement}
+use Rattle.print.proofs.put_top_value.Tie as tie
+
+slice-aggregate-put-text : tie.Need-slice-aggregate-put-text
+slice-aggregate-put-text c = search needs
+
+put-text-requires : tie.Need-put-text-requires
+put-text-requires c κs = search needs
+
+put-out-requires : tie.Need-put-out-requires
+put-out-requires c κs = search needs
+
+slice-aggregate-put-text-2 : tie.Need-slice-aggregate-put-text-2
+slice-aggregate-put-text-2 c = search needs
+
+put-text-requires-2 : tie.Need-put-text-requires-2
+put-text-requires-2 c κs = search needs
+
+returns : tie.Need-returns
+unfolding topValueLine
+returns c = (wrote-more (search needs) (wrote-more (search needs) (c .before .before .before .before .before .put-text .ensures) (c .before .before .before .put-out .ensures .0)) (c .put-text2 .ensures), search needs)
+
+pub put-top-value-spec : {M : Type 1} → statement M
+put-top-value-spec =
+    tie.close
+    (tie.spec
+    slice-aggregate-put-text
+    put-text-requires
+    put-out-requires
+    slice-aggregate-put-text-2
+    put-text-requires-2
+    returns)
