@@ -38,8 +38,9 @@
  *   a store at the limits take about 1 microsecond with only the top made, and
  *   about 5 with 2,047 environments in one line, the focus at its end. Look
  *   and peek then climb to the binding that decides, tell to the binding that
- *   it tells, far to where two ways to the top meet, and goto and back move. A step climbs at most once from the
- *   walk's target and once from the focus, and moves.
+ *   it tells, far to where two ways to the top meet, and goto and back move.
+ *   A step climbs at most once from the walk's target and once from the focus,
+ *   and moves.
  *
  * After DAMAGED.  The call changed nothing, and every call will say the same
  *   of these bytes. See first that pointer and length are those of the open.
