@@ -1,4 +1,4 @@
-// What other code asks of a kind. Soundness, exchange and peek match the kinds' ranges themselves, as document 01 has it.
+// What other code asks of a kind. Soundness, exchange and peek match the kinds' ranges themselves, as document 01 has it, and so does tell.
 ghost use mathlib.Core.Path.{_≡_};
 ghost use Rattle.layout.specs.Kinds.{IsWind, isIn, isOut};
 ghost use Rattle.layout.specs.Sound.{Says};
