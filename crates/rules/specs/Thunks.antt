@@ -1,6 +1,6 @@
 -- The calls of one finished walk, and what they do together: begun, then steps, and between them whatever the host calls but a
 -- drop, up to the step that says done.
--- From document 02, W5, with demand 3's facts. OneWalk has the proof. Assumes nothing.
+-- From document 02, W5, with demand 3's facts. proofs/OneWalk has the proof. Assumes nothing.
 use Rattle.std.specs.Prelude.{◌≡◌, ◌⊎◌, List, [], ◌∷◌, ◌++◌, map, ℕ, suc, ◌+◌, ◌≤◌, length}
 use Rattle.std.specs.Bool.{xor}
 use Rattle.std.proofs.Math.Option.{none}
