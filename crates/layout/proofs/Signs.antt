@@ -10,7 +10,7 @@ use lib.IntN.{ℤ, pos, negsuc, nat_abs, ◌-ℤ◌}
 use lib.Signed.{le_z, non_neg}
 use mir.Syntax.{w32}
 use mir.Val.{of_z, Fits, SFits}
-use Rattle.rules.specs.Basic.{clash}
+use Rattle.rules.proofs.Basic.{clash}
 
 -- -1 - (-1 - n)
 pub up : (n : ℕ) → negsuc 0 -ℤ negsuc n ≡ pos n

@@ -12,5 +12,8 @@ pub mod Writes
 pub mod Made
 pub mod Becomes
 pub mod Routes
--- what is proved of them
-pub mod laws
+pub mod Checks
+pub mod Lifts
+pub mod Legs
+pub mod Deciders
+pub mod Agreeing

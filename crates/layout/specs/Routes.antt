@@ -1,11 +1,11 @@
 -- A switch on bytes, told before it is made: its moves, its events, and where the way of the target to the top meets that of
 -- the focus. Assumes nothing: these are definitions.
-use Rattle.std.specs.Prelude.{◌≡◌, ◌⊎◌, true, cond, ℕ, ◌+◌, ◌*◌, ◌/◌, ◌%◌, List, [], ◌∷◌, ◌++◌, length}
+use Rattle.std.specs.Prelude.{◌≡◌, ◌⊎◌, true, cond, ℕ, ◌+◌, ◌*◌, List, [], ◌∷◌, ◌++◌, length}
 use Rattle.std.proofs.Math.Option.{none}
 use Rattle.rules.specs.Basic.{on}
 use Rattle.rules.specs.Tree.{Tree, path}
 use Rattle.rules.specs.Far.{far}
-use Rattle.rules.specs.Moves.{Event, left, entered, event_of, route, trace}
+use Rattle.rules.specs.Moves.{Event, left, entered, event_of}
 use Rattle.layout.specs.Limits.{event_size}
 use Rattle.layout.specs.Bytes.{splice}
 use Rattle.layout.specs.Records.{focus}

@@ -1,6 +1,8 @@
 // The store's sizes and limits, written once: the code cites these constants, the definitions cite `limits`,
 // and `limits()` is proved to make them one. And what callers of the store need of its bytes: the cell of a value, for open's
 // top cells, and the event in the bytes of a trace.
+#![tactic(auto)]
+
 ghost use Rattle.std.specs.Prelude.{◌≡◌, ◌+◌, ◌*◌};
 ghost use Rattle.std.specs.Int.{w32};
 ghost use Rattle.std.proofs.Common.{of_z};
@@ -34,7 +36,7 @@ impl Store {
 }
 
 // The constants as one value.
-#[derive(Drop)]
+#[derive(Clone, Copy)]
 pub struct Sizes {
     pub vars: usize,
     pub nodes: usize,
@@ -88,7 +90,7 @@ pub fn value_cell(v: i32) -> [u8; Store::BARE]
 }
 
 // A trace event: entering or leaving, its thunk, and its place.
-#[derive(Drop)]
+#[derive(Clone, Copy)]
 pub struct Event {
     pub entering: bool,
     pub thunk: u16,

@@ -8,11 +8,12 @@ use Rattle.rules.specs.Values.{unbound, value}
 use Rattle.layout.specs.Limits.{header, cell_size, node_size, cell_at, node_at}
 use Rattle.layout.specs.Bytes.{part, splice, u16, put16, Bytes}
 use Rattle.layout.specs.Records.{vars, focus, bits_c, value_c, head_of, with_head, with_focus, cell_of, with_cell, bare_c, put_c, node_of, with_node, kind_n, parent_n, var_n, stored_n, turn_n, swap_n}
-use Rattle.layout.specs.Kinds.{by_kind, left_kind, entered_kind, within, node_high}
+use Rattle.layout.specs.Kinds.{by_kind, left_kind, entered_kind, within}
+use Rattle.layout.proofs.NodeKinds.{node_high}
 use Rattle.layout.specs.Fields.{fields_of}
 use Rattle.layout.specs.View.{as_cell, view_f, view}
 use Rattle.layout.specs.Writes.{swap_b, turn_b, move_b, leave_b, enter_b, set_b, Turns}
-use Rattle.layout.specs.laws.Laws.{cell_in}
+use Rattle.layout.proofs.Laws.{cell_in}
 
 -- each number of a list is below 256, number by number
 data Each : List ℕ → Type 0 where

@@ -5,31 +5,24 @@ use Rattle.std.proofs.Common.{sym, ◌∙◌, arith}
 use Rattle.std.proofs.Math.Path.{ap}
 use Rattle.std.proofs.Math.Option.{Option, none, some}
 use Rattle.std.proofs.Math.Decide.{ℕ_discrete}
-use Rattle.rules.specs.Basic.{or_top, on, on_head, on_tail, clash, some≢none}
-use Rattle.rules.specs.Tree.{blank, Tree, Proper, Ranked, path, path_up, downward, deeper_off}
-use Rattle.rules.specs.Far.{far, far_sym, far_self, far_top, far_lift, far_deeper, far_both}
+use Rattle.rules.specs.Basic.{or_top, on}
+use Rattle.rules.proofs.Basic.{on_head, on_tail, clash, some≢none}
+use Rattle.rules.specs.Tree.{blank, Tree, Proper, Ranked, path}
+use Rattle.rules.proofs.Tree.{path_up, downward, deeper_off}
+use Rattle.rules.specs.Far.{far}
+use Rattle.rules.proofs.Far.{far_sym, far_self, far_top, far_lift, far_deeper, far_both}
 use Rattle.layout.specs.Records.{focus, node_of, parent_n, depth_n}
 use Rattle.layout.specs.Fields.{fields_of}
 use Rattle.layout.specs.View.{tree_f, view_f, view}
 use Rattle.layout.specs.Sound.{Whole}
 use Rattle.layout.specs.Made.{IsMade}
-use Rattle.layout.specs.laws.Laws.{node_in}
-use Rattle.layout.specs.laws.SoundLaws.{sound_view, sound_ranked}
-use Rattle.layout.specs.laws.WalkLaws.{made_seen, seen_made, made_room, focus_made}
-use Rattle.layout.specs.laws.Reading.{top_up, up_is, up_made}
-use Rattle.layout.specs.laws.RouteLaws.{moves_entered, meet_top, meet_up, below_meet, meet_over, below_over}
+use Rattle.layout.proofs.Laws.{node_in}
+use Rattle.layout.proofs.SoundLaws.{sound_view, sound_ranked}
+use Rattle.layout.proofs.WalkLaws.{made_seen, seen_made, made_room, focus_made}
+use Rattle.layout.proofs.Reading.{top_up, up_is, up_made}
+use Rattle.layout.proofs.RouteLaws.{moves_entered, meet_top, meet_up, below_meet, meet_over, below_over}
 use Rattle.layout.specs.Routes.{meet, Over, moves_from, moves_to, meeting}
-
-abbrev pub depth_at : List ℕ → ℕ → ℕ
-depth_at s a = (view s).tree.rank a
-
--- a was lifted to c, which is d deep: to any environment no deeper than that, it is so much nearer, and the same of these are on its
--- way to the top
-pub record Lifted (s : List ℕ) (a d c : ℕ) : Type 0 where
-  pub made : IsMade s c
-  pub deep : depth_at s c ≡ d
-  pub nearer : (b : ℕ) → depth_at s b ≤ d → moves_from s a b + d ≡ depth_at s a + moves_from s c b
-  pub on_way : (b : ℕ) → depth_at s b ≤ d → on b (path (view s).tree a) ≡ on b (path (view s).tree c)
+use Rattle.layout.specs.Lifts.{depth_at, Lifted}
 
 -- two that are equally deep, and n nearer than a and b
 pub record Nearing (s : List ℕ) (a b c e n : ℕ) : Type 0 where

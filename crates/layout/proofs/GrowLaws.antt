@@ -12,25 +12,28 @@ use Rattle.std.proofs.Math.Decide.{ℕ_discrete}
 use mathlib.Core.List.{List}
 use Rattle.std.proofs.Math.ListN.{length}
 use Rattle.std.specs.Int.{w32}
-use Rattle.rules.specs.Basic.{upd, upd_same, upd_other}
+use Rattle.rules.specs.Basic.{upd}
+use Rattle.rules.proofs.Basic.{upd_same, upd_other}
 use Rattle.rules.specs.Tree.{What, blank, binding, wind}
 use Rattle.rules.specs.Values.{Cell, unbound, value, Values}
 use Rattle.rules.specs.Store as store
 use Rattle.rules.specs.Grow.{grow, Growable}
-use Rattle.rules.specs.Calls.{set_cell, set_sound, make, make_binding, make_sound}
+use Rattle.rules.specs.Calls.{set_cell, make}
+use Rattle.rules.proofs.Calls.{set_sound, make_binding, make_sound}
 use Rattle.layout.specs.Limits.{node_size}
 use Rattle.layout.specs.Records.{vars, room, made, focus, with_focus, with_made, blank_cell, ProperCell, value_c, bare_c, put_c, node_of, with_node, kind_n, parent_n, var_n, stored_n, depth_n, node_b}
-use Rattle.layout.specs.Kinds.{is_in, IsBinding, IsWind, not_both}
+use Rattle.layout.specs.Kinds.{is_in, IsBinding, IsWind}
+use Rattle.layout.proofs.NodeKinds.{not_both}
 use Rattle.layout.specs.Fields.{Fields, cells, nodes, fields_of, Fit}
 use Rattle.layout.specs.View.{as_cell, what_n, up_n, tree_f, view_f, view}
 use Rattle.layout.specs.Sound.{NodeOk, depth_above, Shape, Whole}
 use Rattle.layout.specs.Writes.{depth_under, set_b, grow_b, bind_b, wind_b}
 use Rattle.layout.specs.Made.{next_of, IsFull}
 use Rattle.layout.specs.Becomes.{Becomes}
-use Rattle.layout.specs.laws.Laws.{of_buffer, node_in, cell_in, Wrote, node_f, cell_f, made_to, focus_to, fields_vars, wrote_node, wrote_cell, wrote_made, wrote_focus, wrote_fit, then}
-use Rattle.layout.specs.laws.RecordLaws.{put_length, bare_length, value_length, node_length, bare_put, node_kind, node_parent, node_var, node_post, node_stored, node_depth, as_blank, as_value}
-use Rattle.layout.specs.laws.SoundLaws.{what_binding, what_wind, what_blank, up_node, blank_node_lem, not_blank_lem, depth_few, sound_fit, sound_view, shape_inners, parents_made, shape_blanks, shape_by_numbers}
-use Rattle.layout.specs.laws.MoveLaws.{through, becomes}
+use Rattle.layout.proofs.Laws.{of_buffer, node_in, cell_in, Wrote, node_f, cell_f, made_to, focus_to, fields_vars, wrote_node, wrote_cell, wrote_made, wrote_focus, wrote_fit, then}
+use Rattle.layout.proofs.RecordLaws.{put_length, bare_length, value_length, node_length, bare_put, node_kind, node_parent, node_var, node_post, node_stored, node_depth, as_blank, as_value}
+use Rattle.layout.proofs.SoundLaws.{what_binding, what_wind, what_blank, up_node, blank_node_lem, not_blank_lem, depth_few, sound_fit, sound_view, shape_inners, parents_made, shape_blanks, shape_by_numbers}
+use Rattle.layout.proofs.MoveLaws.{through, becomes}
 
 -- ---- the depth of a child of the focus, as the code finds it; it fits in two bytes
 pub under_is : (s : List ℕ) → Whole s → (f d : ℕ) → f ≡ focus s → d ≡ depth_n (node_of s f) → d + 1 ≡ depth_under s

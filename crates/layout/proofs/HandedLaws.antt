@@ -5,8 +5,9 @@ use Rattle.std.proofs.Common.{sym, ◌∙◌, arith}
 use Rattle.std.proofs.Math.Path.{ap, subst}
 use Rattle.std.proofs.Math.Option.{Option, none, some}
 use Rattle.std.proofs.Math.Decide.{ℕ_discrete}
-use Rattle.rules.specs.Basic.{clash}
-use Rattle.rules.specs.Tree.{blank, Tree, deeper_off}
+use Rattle.rules.proofs.Basic.{clash}
+use Rattle.rules.specs.Tree.{blank, Tree}
+use Rattle.rules.proofs.Tree.{deeper_off}
 use Rattle.rules.specs.Moves.{is_wind}
 use Rattle.rules.specs.Store as store
 use Rattle.rules.specs.Leg.{Handed, Walking}
@@ -17,14 +18,15 @@ use Rattle.layout.specs.Fields.{fields_of}
 use Rattle.layout.specs.View.{what_n, tree_f, view_f, view, or_none, walk_of}
 use Rattle.layout.specs.Sound.{Whole, WalkOk, Sound}
 use Rattle.layout.specs.Made.{IsMade}
-use Rattle.layout.specs.laws.Laws.{node_in}
-use Rattle.layout.specs.laws.SoundLaws.{what_wind, sound_view}
-use Rattle.layout.specs.laws.MoveLaws.{inner}
-use Rattle.layout.specs.laws.WalkLaws.{sized_then, made_room, made_seen, seen_made}
-use Rattle.layout.specs.laws.Reading.{up_is}
-use Rattle.layout.specs.laws.RouteLaws.{plain}
-use Rattle.layout.specs.laws.FarLaws.{depth_at, Lifted, lifted_on, on_lifted}
-use Rattle.layout.specs.laws.StrideLaws.{no_target, no_walk_lem, with_target_lem, Rewalked}
+use Rattle.layout.proofs.Laws.{node_in}
+use Rattle.layout.proofs.SoundLaws.{what_wind, sound_view}
+use Rattle.layout.proofs.MoveLaws.{inner}
+use Rattle.layout.proofs.WalkLaws.{sized_then, made_room, made_seen, seen_made}
+use Rattle.layout.proofs.Reading.{up_is}
+use Rattle.layout.proofs.RouteLaws.{plain}
+use Rattle.layout.specs.Lifts.{depth_at, Lifted}
+use Rattle.layout.proofs.FarLaws.{lifted_on, on_lifted}
+use Rattle.layout.proofs.StrideLaws.{no_target, no_walk_lem, with_target_lem, Rewalked}
 
 pub top_kind : (s : List ℕ) → Whole s → kind_n (node_of s 0) ≡ 1
 unfolding fields_of kind_n top_node

@@ -1,11 +1,12 @@
 -- The walk that the header names (document 02, W5): what of it a call that writes leaves, and when it is sound.
 -- No place of the layout stands here. Assumes nothing.
-use Rattle.std.specs.Prelude.{◌≡◌, true, false, ℕ, List}
+use Rattle.std.specs.Prelude.{◌≡◌, ℕ, List}
 use Rattle.std.proofs.Math.Path.{refl}
 use Rattle.std.proofs.Common.{sym, ap, subst, ◌∙◌, arith, ne_eqb}
 use Rattle.std.proofs.Math.Option.{Option, none, some}
 use Rattle.std.proofs.Math.Decide.{ℕ_discrete}
-use Rattle.rules.specs.Basic.{or_top, some≢none}
+use Rattle.rules.specs.Basic.{or_top}
+use Rattle.rules.proofs.Basic.{some≢none}
 use Rattle.rules.specs.Tree.{Tree}
 use Rattle.rules.specs.Store as store
 use Rattle.rules.specs.World.{Walk}
@@ -16,8 +17,8 @@ use Rattle.layout.specs.Fields.{Fields, fields_of, vars_f, room_f, target_f, han
 use Rattle.layout.specs.View.{tree_f, view_f, view, or_none, walk_to, walk_f, walk_of}
 use Rattle.layout.specs.Sound.{Shape, SoundF, Whole, WalkOk, Sound}
 use Rattle.layout.specs.Becomes.{Sized, Kept, Becomes}
-use Rattle.layout.specs.laws.Laws.{Wrote, target_to, handed_to, fields_number, fields_vars, fields_room, wrote_target, wrote_handed, wrote_fit}
-use Rattle.layout.specs.laws.SoundLaws.{sound_fit}
+use Rattle.layout.proofs.Laws.{Wrote, target_to, handed_to, fields_number, fields_vars, fields_room, wrote_target, wrote_handed, wrote_fit}
+use Rattle.layout.proofs.SoundLaws.{sound_fit}
 
 -- ---- a number in the header, or none
 pub none_is : (n : ℕ) → n ≡ none_n → or_none n ≡ none

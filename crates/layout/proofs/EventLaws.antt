@@ -4,7 +4,8 @@ use Rattle.std.proofs.Common.{sym, ap, ◌∙◌, arith, append_assoc, length-ap
 use Rattle.std.proofs.Math.ListN.{length}
 use Rattle.rules.specs.Moves.{Event}
 use Rattle.layout.specs.Limits.{event_size}
-use Rattle.layout.specs.Bytes.{u16, put16, by_tab, splice, splice_length, splice_next, splice_prev}
+use Rattle.layout.specs.Bytes.{u16, put16, splice}
+use Rattle.layout.proofs.Bytes.{by_tab, splice_length, splice_next, splice_prev}
 use Rattle.layout.specs.Events.{bit, event_d, event_b, event_in, events_b, told}
 use Rattle.layout.specs.Routes.{told_at}
 

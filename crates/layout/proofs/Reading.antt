@@ -7,29 +7,28 @@ use Rattle.std.proofs.Common.{◌∙◌, ⊎_elim, arith, ne_eqb, le-leb}
 use Rattle.std.proofs.Math.Logic.{inl, inr}
 use Rattle.std.proofs.Math.Option.{Option, none, some}
 use Prim.Native.Nat.{ℕ, zero, suc, ◌≤◌, ◌<◌}
-use Rattle.std.proofs.Math.Decide.{ℕ_discrete, dec_le}
+use Rattle.std.proofs.Math.Decide.{ℕ_discrete}
 use mathlib.Core.List.{List, [], ◌∷◌}
 use Rattle.std.proofs.lemmas.Bool.{lt-leb}
-use Rattle.rules.specs.Basic.{clash, eqb_self, on, on_cases, or_top}
-use Rattle.rules.specs.Tree.{What, blank, top, binding, wind, Proper, binds, path, path_top, path_up}
-use Rattle.rules.specs.Values.{value_by, is_at, below, seek, or_seen, seek_below}
-use Rattle.rules.specs.Store.{home}
-use Rattle.rules.specs.Calls.{decider_at, value_at, peek_of, peek_shows}
+use Rattle.rules.specs.Basic.{on, or_top}
+use Rattle.rules.proofs.Basic.{clash, eqb_self, on_cases}
+use Rattle.rules.specs.Tree.{What, blank, top, binding, wind, Proper, binds, path}
+use Rattle.rules.proofs.Tree.{path_top, path_up}
+use Rattle.rules.specs.Values.{value_by, is_at, below, seek, or_seen}
+use Rattle.rules.proofs.Values.{seek_below}
+use Rattle.rules.specs.Calls.{decider_at, peek_of}
+use Rattle.rules.proofs.Calls.{peek_shows}
 use Rattle.layout.specs.Records.{vars, room, focus, blank_cell, ProperCell, cell_of, bare_c, node_of, kind_n, parent_n, var_n, post_n, stored_n, top_node}
 use Rattle.layout.specs.Kinds.{within, by_kind, is_out, IsBinding, IsWind, IsNode}
 use Rattle.layout.specs.Fields.{nodes, fields_of, Fit}
 use Rattle.layout.specs.View.{as_cell, what_n, up_n, tree_f, view_f, view}
 use Rattle.layout.specs.Sound.{NodeOk, depth_above, Whole}
 use Rattle.layout.specs.Made.{IsMade}
-use Rattle.layout.specs.laws.Laws.{node_in, cell_in}
-use Rattle.layout.specs.laws.SoundLaws.{what_binding, what_wind, what_top, up_node, up_top, sound_fit, sound_headed, sound_view, shape_inners}
-use Rattle.layout.specs.laws.MoveLaws.{inner}
-use Rattle.layout.specs.laws.WalkLaws.{made_seen, made_room, focus_made, out_up, in_above, parent_made}
-
--- ---- a decider by its number: 0 where the top value decides
-unfoldable pub binder_of : ℕ → Option ℕ
-binder_of zero = none
-binder_of (suc n) = some (suc n)
+use Rattle.layout.proofs.Laws.{node_in, cell_in}
+use Rattle.layout.proofs.SoundLaws.{what_binding, what_wind, what_top, up_node, up_top, sound_fit, sound_headed, sound_view, shape_inners}
+use Rattle.layout.proofs.MoveLaws.{inner}
+use Rattle.layout.proofs.WalkLaws.{made_seen, made_room, focus_made, out_up, in_above, parent_made}
+use Rattle.layout.specs.Deciders.{binder_of, FoundAt, Ahead, last_below}
 
 pub binder_inner : (n : ℕ) → 1 ≤ n → binder_of n ≡ some n
 unfolding binder_of
@@ -48,21 +47,6 @@ not_at : (what : ℕ → What) (stop n : ℕ) → n ≢ stop → is_at what (bin
 unfolding binder_of
 not_at what zero n d = refl
 not_at what (suc k) n d = ne_eqb (suc k) n (λ e. d (sym e))
-
--- ---- what peek answers: the decider of x at a by its number, and the decider's own value as a proper bare cell
-pub record FoundAt (s : List ℕ) (a x : ℕ) (n : ℕ) (c : List ℕ) : Type 0 where
-  pub by : binder_of n ≡ decider_at (view s).tree a x
-  pub made : IsMade s n
-  pub value : as_cell c ≡ value_at (home (view s)) a x
-  pub proper : ProperCell c
-
--- ---- the climb from the focus: `stop` is the top or still ahead of n
-abbrev pub Ahead : List ℕ → ℕ → ℕ → Type 0
-Ahead s stop n = (stop ≡ 0) ⊎ (on stop (path (view s).tree n) ≡ true)
-
--- the last binding of x on the way from the focus up to `stop`
-unfoldable pub last_below : List ℕ → ℕ → ℕ → Option ℕ
-last_below s stop x = below (view s).tree.what x (binder_of stop) (path (view s).tree (focus s))
 
 -- at n, with `seen` the last binding of x met: what is left of the climb gives what the whole gives
 pub record Seeks (s : List ℕ) (stop x n seen : ℕ) : Type 0 where

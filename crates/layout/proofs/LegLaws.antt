@@ -3,15 +3,17 @@
 use Rattle.std.specs.Prelude.{◌≡◌, refl, ◌≢◌, ℕ}
 use Rattle.std.proofs.Common.{sym, ◌∙◌}
 use Rattle.std.proofs.Math.Path.{ap}
-use Rattle.std.proofs.Math.Option.{Option, none, some}
+use Rattle.std.proofs.Math.Option.{some}
 use mathlib.Core.List.{List, [], ◌∷◌, ◌++◌}
-use Rattle.rules.specs.Basic.{on_head}
-use Rattle.rules.specs.Tree.{Tree, path, path_up}
+use Rattle.rules.proofs.Basic.{on_head}
+use Rattle.rules.specs.Tree.{Tree, path}
+use Rattle.rules.proofs.Tree.{path_up}
 use Rattle.rules.specs.Store as store
 use Rattle.rules.specs.Far.{far}
-use Rattle.rules.specs.Moves.{Move, entered, Moves, done, move, moves_tree, route}
-use Rattle.rules.specs.Walk.{goto_moves}
-use Rattle.rules.specs.Route.{enter_first, route_self}
+use Rattle.rules.specs.Moves.{Move, entered, Moves, done, move, route}
+use Rattle.rules.proofs.Moves.{moves_tree}
+use Rattle.rules.proofs.Walk.{goto_moves}
+use Rattle.rules.proofs.Route.{enter_first, route_self}
 use Rattle.rules.specs.Leg.{Handed}
 use Rattle.layout.specs.Limits.{none_n}
 use Rattle.layout.specs.Records.{focus, target, handed, with_target, with_handed}
@@ -19,19 +21,12 @@ use Rattle.layout.specs.Fields.{fields_of}
 use Rattle.layout.specs.View.{view_f, view, or_none}
 use Rattle.layout.specs.Sound.{Whole, Sound}
 use Rattle.layout.specs.Made.{IsMade}
-use Rattle.layout.specs.Becomes.{Sized, Becomes}
-use Rattle.layout.specs.laws.SoundLaws.{sound_view}
-use Rattle.layout.specs.laws.WalkLaws.{sized_self, sized_then, made_seen, seen_made}
-use Rattle.layout.specs.laws.StrideLaws.{none_is, some_is, Rewalked, target_written, handed_written}
-use Rattle.layout.specs.laws.HandedLaws.{walking_at, handed_made, still_made}
-
--- s became t by the moves ms, with the target a and the wind c in the header
-pub record Moved (s t : List ℕ) (ms : List Move) (a c : ℕ) : Type 0 where
-  pub whole : Whole t
-  pub size : Sized s t
-  pub moves : Moves (view s) ms (view t)
-  pub target : target t ≡ a
-  pub handed : handed t ≡ c
+use Rattle.layout.specs.Becomes.{Becomes}
+use Rattle.layout.proofs.SoundLaws.{sound_view}
+use Rattle.layout.proofs.WalkLaws.{sized_self, sized_then, made_seen, seen_made}
+use Rattle.layout.proofs.StrideLaws.{none_is, some_is, Rewalked, target_written, handed_written}
+use Rattle.layout.proofs.HandedLaws.{walking_at, handed_made, still_made}
+use Rattle.layout.specs.Legs.{Moved, enters_first}
 
 -- the walk's numbers are written
 pub moved_rewalked : {s t : List ℕ} {a c : ℕ} → Rewalked s t a c → Moved s t [] a c
@@ -74,11 +69,6 @@ module _ (s t : List ℕ) (ms : List Move) {a c : ℕ} (m : Moved s t ms a c) wh
       let r = target_written t m.whole none_n in
       let n = moved_rewritten (moved_rewritten m r) (handed_written (with_target t none_n) r.whole none_n) in
       record { whole = n.whole; size = n.size; moves = n.moves; target = n.target ∙ r.target; handed = n.handed }
-
--- ---- the wind whose entering was handed over is entered, if there is one
-abbrev pub enters_first : Option ℕ → List Move
-enters_first none = []
-enters_first (some c) = entered c ∷ []
 
 pub none_entered : (s : List ℕ) → Whole s → handed s ≡ none_n → Moved s s (enters_first (or_none (handed s))) (target s) none_n
 none_entered s ok e = rw (none_is (handed s) e) record { whole = ok; size = sized_self s; moves = done; target = refl; handed = e }

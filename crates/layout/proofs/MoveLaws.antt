@@ -4,27 +4,30 @@ use Rattle.std.specs.Prelude.{◌≡◌, ◌≢◌, ◌⊎◌, false}
 use Rattle.std.proofs.Math.Path.{refl, ap, subst, fun_ext}
 use Rattle.std.proofs.Common.{sym, ◌∙◌, inl, inr, arith}
 use Rattle.std.proofs.Math.Bool.{true}
-use Rattle.std.proofs.Math.Option.{none, some}
-use Prim.Native.Nat.{ℕ, zero, ◌-◌, ◌≤◌, ◌<◌}
+use Rattle.std.proofs.Math.Option.{some}
+use Prim.Native.Nat.{ℕ, ◌≤◌, ◌<◌}
 use Rattle.std.proofs.Math.Decide.{ℕ_discrete}
 use mathlib.Core.List.{List}
 use Rattle.std.proofs.Math.ListN.{length}
-use Rattle.rules.specs.Basic.{upd, upd_same, upd_other, upd_id, clash, on, on_head, some≢none}
-use Rattle.rules.specs.Tree.{blank, binding, wind, path, path_up}
+use Rattle.rules.specs.Basic.{upd}
+use Rattle.rules.proofs.Basic.{upd_same, upd_other, upd_id, clash, on_head, some≢none}
+use Rattle.rules.specs.Tree.{blank, binding, wind, path}
+use Rattle.rules.proofs.Tree.{path_up}
 use Rattle.rules.specs.Values.{Cell, Values, exchange}
 use Rattle.rules.specs.Store as store
-use Rattle.rules.specs.Store.{leave_sound, enter_sound}
+use Rattle.rules.proofs.Store.{leave_sound, enter_sound}
 use Rattle.layout.specs.Limits.{cell_size, node_size}
 use Rattle.layout.specs.Records.{vars, room, made, focus, target, handed, with_focus, blank_cell, ProperCell, cell_of, bare_c, put_c, node_of, with_node, with_cell, kind_n, parent_n, var_n, stored_n, depth_n, turn_n, swap_n}
-use Rattle.layout.specs.Kinds.{is_in, left_kind, entered_kind, kind_binding, kind_wind, Node, binding_out, binding_in, wind_out, wind_in, node_kind, IsBinding, IsWind, IsNode, not_both}
-use Rattle.layout.specs.Fields.{Fields, cells, nodes, fields_of, Fit, past, vars_f, room_f, made_f, focus_f, target_f, handed_f}
+use Rattle.layout.specs.Kinds.{is_in, left_kind, entered_kind, Node, binding_out, binding_in, wind_out, wind_in, IsBinding, IsWind, IsNode}
+use Rattle.layout.proofs.NodeKinds.{kind_binding, kind_wind, node_kind, not_both}
+use Rattle.layout.specs.Fields.{Fields, cells, nodes, fields_of, Fit, vars_f, room_f, made_f, focus_f, target_f, handed_f}
 use Rattle.layout.specs.View.{as_cell, what_n, up_n, tree_f, view_f, view}
 use Rattle.layout.specs.Sound.{NodeOk, depth_above, HeadOk, Shape, Whole}
 use Rattle.layout.specs.Writes.{swap_b, turn_b, move_b, leave_b, enter_b, Turns}
 use Rattle.layout.specs.Becomes.{Becomes}
-use Rattle.layout.specs.laws.Laws.{OfBuffer, of_buffer, node_in, cell_in, Wrote, node_f, cell_f, focus_to, fields_number, fields_vars, fields_room, wrote_node, wrote_cell, wrote_focus, wrote_fit, then}
-use Rattle.layout.specs.laws.RecordLaws.{put_length, turn_length, swap_length, bare_length, stored_length, bare_put, SameNode, turn_kind, turn_same, turn_stored, swap_kind, swap_same, swap_stored}
-use Rattle.layout.specs.laws.SoundLaws.{what_binding, what_wind, up_node, inner_up, sound_fit, sound_view, shape_inners, parents_made, shape_blanks, shape_by_numbers}
+use Rattle.layout.proofs.Laws.{OfBuffer, of_buffer, node_in, cell_in, Wrote, node_f, cell_f, focus_to, fields_number, fields_vars, fields_room, wrote_node, wrote_cell, wrote_focus, wrote_fit, then}
+use Rattle.layout.proofs.RecordLaws.{put_length, turn_length, swap_length, bare_length, stored_length, bare_put, SameNode, turn_kind, turn_same, turn_stored, swap_kind, swap_same, swap_stored}
+use Rattle.layout.proofs.SoundLaws.{what_binding, what_wind, up_node, inner_up, sound_fit, sound_view, shape_inners, parents_made, shape_blanks, shape_by_numbers}
 
 -- ---- functions through a change at one place
 module _ {B : Type 0} (h : List ℕ → B) (g : ℕ → List ℕ) (n : ℕ) (p : List ℕ) where

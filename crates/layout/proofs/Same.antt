@@ -3,35 +3,40 @@
 -- From document 01, "How much a promise has to say" (two outcomes coincide). Assumes nothing.
 use Rattle.std.proofs.Math.Path.{◌≡◌, refl, sym, ap, fun_ext}
 use Rattle.std.proofs.Common.{◌∙◌, inl, inr, take-append-drop, length-take, ext_get_or, get_or-take, length-take-le, take-take}
-use Rattle.std.specs.Prelude.{◌≢◌, Bool, true, false, ℕ, zero, suc, ◌+◌, ◌≤◌, ◌<◌, List, [], ◌∷◌, ◌++◌, get_or, take, drop}
+use Rattle.std.specs.Prelude.{◌≢◌, Bool, true, false, ℕ, zero, suc, ◌+◌, ◌≤◌, ◌<◌, List, [], ◌∷◌, ◌++◌, take, drop}
 use Rattle.std.proofs.Math.Option.{some}
 use native.Mathlib.Omega.{arith}
 use Rattle.std.proofs.Math.Decide.{dec_lt}
 use Rattle.std.proofs.Math.ListN.{length}
-use Rattle.rules.specs.Basic.{eqb_self, on}
-use Rattle.rules.specs.Tree.{top, binding, wind, path, path_up, What, blank, Proper, ranks_once}
+use Rattle.rules.specs.Basic.{on}
+use Rattle.rules.proofs.Basic.{eqb_self}
+use Rattle.rules.specs.Tree.{top, binding, wind, path, What, blank, Proper}
+use Rattle.rules.proofs.Tree.{path_up, ranks_once}
 use Rattle.rules.specs.Values.{unbound}
 use Rattle.rules.specs.Store as store
 use Rattle.rules.specs.Store.{home}
-use Rattle.rules.specs.Calls.{decider_at, value_at, look_right}
-use Rattle.rules.specs.Meaning.{home_means}
+use Rattle.rules.specs.Calls.{decider_at, value_at}
+use Rattle.rules.proofs.Calls.{look_right}
+use Rattle.rules.proofs.Meaning.{home_means}
 use Rattle.rules.specs.Effects.{SameDeep}
 use Rattle.layout.specs.Limits.{cell_size, node_size, size_of}
 use Rattle.layout.specs.Bytes.{part, Bytes, BytesTo}
 use Rattle.layout.specs.Records.{head_of, head_b, vars, room, made, focus, target, handed, cell_of, bare_c, whole_c, node_of, kind_n, parent_n, var_n, post_n, stored_n, depth_n, node_b}
-use Rattle.layout.specs.Kinds.{is_in, Node, binding_out, binding_in, wind_out, wind_in, node_kind, IsBinding, IsWind, IsNode}
+use Rattle.layout.specs.Kinds.{is_in, Node, binding_out, binding_in, wind_out, wind_in, IsBinding, IsWind, IsNode}
+use Rattle.layout.proofs.NodeKinds.{node_kind}
 use Rattle.layout.specs.Fields.{cells, nodes, fields_of, past}
 use Rattle.layout.specs.View.{as_cell, what_n, up_n, tree_f, view_f, view, walk_f, walk_of}
 use Rattle.layout.specs.Sound.{NodeOk, depth_above, Whole, Sound}
 use Rattle.layout.specs.Events.{bit}
 use Rattle.layout.specs.Made.{IsMade}
 use Rattle.layout.specs.Becomes.{Becomes}
-use Rattle.layout.specs.laws.Laws.{of_buffer, node_in, cell_in, node_past, cell_past}
-use Rattle.layout.specs.laws.RecordLaws.{bare_length, stored_length, cell_again, node_again, bare_bytes, stored_bytes, cell_once, as_blank}
-use Rattle.layout.specs.laws.PlaceLaws.{head_said, cell_bytes, node_bytes, alike_number, alike_cell, alike_node, at_each}
-use Rattle.layout.specs.laws.OpenLaws.{stored_top, stored_blank}
-use Rattle.layout.specs.laws.SoundLaws.{what_binding, what_wind, up_node, Place, is_top, is_inner, is_blank, place, blank_node_lem, sound_fit, sound_view, sound_ranked, up_inner, what_top, what_blank, shape_inners, shape_blanks}
-use Rattle.layout.specs.laws.WalkLaws.{made_seen, seen_made}
+use Rattle.layout.proofs.Laws.{of_buffer, node_in, cell_in, node_past, cell_past}
+use Rattle.layout.proofs.RecordLaws.{bare_length, stored_length, cell_again, node_again, bare_bytes, stored_bytes, cell_once, as_blank}
+use Rattle.layout.proofs.PlaceLaws.{head_said, cell_bytes, node_bytes, alike_number, alike_cell, alike_node, at_each}
+use Rattle.layout.proofs.OpenLaws.{stored_top, stored_blank}
+use Rattle.layout.proofs.SoundLaws.{what_binding, what_wind, up_node, Place, is_top, is_inner, is_blank, place, blank_node_lem, sound_fit, sound_view, sound_ranked, up_inner, what_top, what_blank, shape_inners, shape_blanks}
+use Rattle.layout.proofs.WalkLaws.{made_seen, seen_made}
+use Rattle.layout.specs.Agreeing.{AgreeTo}
 
 -- ---- an inner node is what it is seen as
 -- its kind: a binding's or a wind's, and in or out
@@ -305,10 +310,6 @@ take_part (suc a) (suc z) (x ∷ xs) n h = take_part a z xs n (omega arith)
 pub part_take : (xs : List ℕ) (z a n : ℕ) → a + n ≤ z → part (take z xs) a n ≡ part xs a n
 unfolding part
 part_take xs z a n h = take_part a z xs n h
-
--- s and u have the same bytes up to the size that s names
-abbrev pub AgreeTo : List ℕ → List ℕ → Type 0
-AgreeTo s u = take (size_of (vars s) (room s)) s ≡ take (size_of (vars s) (room s)) u
 
 module _ (s u : List ℕ) (agree : AgreeTo s u) where
   same_part : (a n : ℕ) → a + n ≤ size_of (vars s) (room s) → part s a n ≡ part u a n

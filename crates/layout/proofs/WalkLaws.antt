@@ -6,14 +6,19 @@ use Rattle.std.proofs.Common.{sym, ◌∙◌, inl, inr, arith}
 use Rattle.std.proofs.Math.Bool.{true, false}
 use Rattle.std.proofs.Math.Option.{none, some}
 use Rattle.std.proofs.lemmas.Bool.{not-true, not-false}
-use Rattle.rules.specs.Basic.{upd_same, clash, on, some≢none}
-use Rattle.rules.specs.Tree.{blank, Tree, path, off_parent}
+use Rattle.rules.specs.Basic.{on}
+use Rattle.rules.proofs.Basic.{upd_same, clash, some≢none}
+use Rattle.rules.specs.Tree.{blank, Tree, path}
+use Rattle.rules.proofs.Tree.{off_parent}
 use Rattle.rules.specs.Store as store
-use Rattle.rules.specs.Store.{goto, goto_focus, goto_tree, goto_sound, goto_here}
-use Rattle.rules.specs.Walk.{Turn, arrived, outside, above, turn, goto_out, goto_in, far_out, far_in}
+use Rattle.rules.specs.Store.{goto}
+use Rattle.rules.proofs.Store.{goto_focus, goto_tree, goto_sound, goto_here}
+use Rattle.rules.specs.Walk.{Turn, arrived, outside, above}
+use Rattle.rules.proofs.Walk.{turn, goto_out, goto_in, far_out, far_in}
 use Rattle.layout.specs.Limits.{node_size}
 use Rattle.layout.specs.Records.{vars, room, made, focus, node_of, with_node, kind_n, parent_n, swap_n}
-use Rattle.layout.specs.Kinds.{is_in, is_out, kind_binding, kind_wind, node_kind, out_not_in, IsNode}
+use Rattle.layout.specs.Kinds.{is_in, is_out, IsNode}
+use Rattle.layout.proofs.NodeKinds.{kind_binding, kind_wind, node_kind, out_not_in}
 use Rattle.layout.specs.Fields.{Fields, fields_of, nodes, Fit, vars_f, room_f}
 use Rattle.layout.specs.View.{what_n, up_n, tree_f, view_f, view}
 use Rattle.layout.specs.Sound.{Whole}
@@ -21,10 +26,10 @@ use Rattle.layout.specs.Writes.{turn_b, leave_b, enter_b, Turns}
 use Rattle.layout.specs.Made.{IsMade}
 use Rattle.layout.specs.Becomes.{Sized, Kept, Becomes}
 use Rattle.layout.specs.Routes.{moves_to}
-use Rattle.layout.specs.laws.Laws.{of_buffer, node_in, Wrote, wrote_node, wrote_fit, fields_vars, fields_room}
-use Rattle.layout.specs.laws.RecordLaws.{swap_length, turn_same, swap_same}
-use Rattle.layout.specs.laws.SoundLaws.{Place, is_top, is_inner, is_blank, place, what_blank, up_top, out_top, up_inner, blank_node_lem, not_blank_lem, sound_fit, sound_view, shape_inners}
-use Rattle.layout.specs.laws.MoveLaws.{wrote_swap, wrote_wind, sound_turns, inner, leave_becomes, enter_becomes}
+use Rattle.layout.proofs.Laws.{of_buffer, node_in, Wrote, wrote_node, wrote_fit, fields_vars, fields_room}
+use Rattle.layout.proofs.RecordLaws.{swap_length, turn_same, swap_same}
+use Rattle.layout.proofs.SoundLaws.{Place, is_top, is_inner, is_blank, place, what_blank, up_top, out_top, up_inner, blank_node_lem, not_blank_lem, sound_fit, sound_view, shape_inners}
+use Rattle.layout.proofs.MoveLaws.{wrote_swap, wrote_wind, sound_turns, inner, leave_becomes, enter_becomes}
 
 -- ---- one after the other
 pub sized_self : (s : List ℕ) → Sized s s

@@ -9,7 +9,8 @@ use Rattle.std.specs.Int.{w32}
 use mir.ValLaws.{of_z_fits, of_z-to_z, to_z-of_z}
 use Rattle.rules.specs.Values.{unbound, value}
 use Rattle.layout.specs.Limits.{header, cell_size, bare_size, node_size}
-use Rattle.layout.specs.Bytes.{u16, put16, tab, by_tab, BytesTo}
+use Rattle.layout.specs.Bytes.{u16, put16, tab, BytesTo}
+use Rattle.layout.proofs.Bytes.{by_tab}
 use Rattle.layout.specs.Records.{head_b, blank_cell, ProperCell, bits_c, value_c, bare_c, put_c, whole_c, kind_n, parent_n, var_n, post_n, stored_n, depth_n, turn_n, swap_n, node_b, top_node}
 use Rattle.layout.specs.View.{as_cell}
 

@@ -8,17 +8,23 @@ use Rattle.std.proofs.Math.Bool.{true, false}
 use Rattle.std.proofs.Math.Option.{some}
 use Rattle.std.proofs.Math.Decide.{ℕ_discrete}
 use Rattle.std.proofs.lemmas.Bool.{eqb-false, not-false}
-use Rattle.rules.specs.Basic.{on, clash, on_head, on_cases}
-use Rattle.rules.specs.Tree.{Tree, Proper, path, path_top, path_up, path_once, downward, on_path_above, rank_depth}
-use Rattle.rules.specs.Modes.{num, count, count_on, modes_by_count}
-use Rattle.layout.specs.Bytes.{Zeros, zeros_list, list_zeros}
+use Rattle.rules.specs.Basic.{on}
+use Rattle.rules.proofs.Basic.{clash, on_head, on_cases}
+use Rattle.rules.specs.Tree.{Tree, Proper, path}
+use Rattle.rules.proofs.Tree.{path_top, path_up, path_once, downward, on_path_above, rank_depth}
+use Rattle.rules.specs.Modes.{num, count}
+use Rattle.rules.proofs.Modes.{count_on, modes_by_count}
+use Rattle.layout.specs.Bytes.{Zeros}
+use Rattle.layout.proofs.Bytes.{zeros_list, list_zeros}
 use Rattle.layout.specs.Records.{kind_n, parent_n, depth_n, top_node}
-use Rattle.layout.specs.Kinds.{is_in, is_out, node_kind, out_not_in}
+use Rattle.layout.specs.Kinds.{is_in, is_out}
+use Rattle.layout.proofs.NodeKinds.{node_kind, out_not_in}
 use Rattle.layout.specs.Fields.{Fields, fields_of, made_f, focus_f}
 use Rattle.layout.specs.View.{up_n, tree_f}
 use Rattle.layout.specs.Sound.{Says, Shape, Ins, Whole}
-use Rattle.layout.specs.laws.Laws.{OfBuffer, of_buffer}
-use Rattle.layout.specs.laws.SoundLaws.{Place, is_top, is_inner, is_blank, place, out_top, shape_inners, parents_made, inner_up, up_inner, shape_proper, shape_ranked, path_made, modes_by_numbers, sound_fit}
+use Rattle.layout.proofs.Laws.{OfBuffer, of_buffer}
+use Rattle.layout.proofs.SoundLaws.{Place, is_top, is_inner, is_blank, place, out_top, shape_inners, parents_made, inner_up, up_inner, shape_proper, shape_ranked, path_made, modes_by_numbers, sound_fit}
+use Rattle.layout.specs.Checks.{Counted, mode_f, AllRise}
 
 -- ---- tests
 pub says_map : (b : Bool) {P Q : Type 0} → (P → Q) → (Q → P) → Says b P → Says b Q
@@ -91,11 +97,6 @@ module _ (s : List ℕ) (a e : ℕ) (le : a ≤ e) (fits : e ≤ length s) where
       from : Zeros s a e → take (e - a) (drop a s) ≡ replicate (e - a) 0
       from z = zeros_list _ (e - a) lent_length (λ i l h. lent_byte i h ∙ z (a + i) (omega arith) (omega arith))
 
--- ---- how many are in: of the nodes 1 to n-1, k, counted one by one; the top is left out
-pub record Counted (b : ℕ → Bool) (n k : ℕ) : Type 0 where
-  pub few : k < n
-  pub all : count b n ≡ num (b 0) + k
-
 count_more : (b : ℕ → Bool) (n : ℕ) → count b (n + 1) ≡ num (b n) + count b n
 count_more b n = rw add-one
 
@@ -112,23 +113,12 @@ count_same : (b c : ℕ → Bool) (n : ℕ) → ((k : ℕ) → k < n → b k ≡
 count_same b c zero h = refl
 count_same b c (suc n) h = omega (arith, ap num (h n (le_refl _)), count_same b c n (λ k l. h k (omega arith)))
 
-abbrev pub mode_f : Fields → ℕ → Bool
-mode_f f n = is_in (kind_n (f.node n))
-
 -- the top is not in
 pub counted_all : (f : Fields) (n k : ℕ) → f.node 0 ≡ top_node → Counted (mode_f f) n k → k ≡ count (mode_f f) n
 unfolding top_node kind_n is_in
 counted_all f n k top c =
     let out : num (mode_f f 0) ≡ 0 = ap (λ (p : List ℕ). num (is_in (kind_n p))) top in
     omega (arith, c.all)
-
--- ---- the modes without a climb: as many nodes are in as the focus is deep, and where a node is in, what is above it is too
--- where the node n is in, its parent is in or the top
-abbrev pub Rises : Fields → ℕ → Type 0
-Rises f n = mode_f f n ≡ true → is_out (kind_n (f.node (parent_n (f.node n)))) ≡ false
-
-abbrev pub AllRise : Fields → Type 0
-AllRise f = (n : ℕ) → 1 ≤ n → n < made_f f → Rises f n
 
 -- the focus is in or the top, and so many are in
 abbrev pub FocusIn : Fields → Type 0

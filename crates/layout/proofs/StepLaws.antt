@@ -9,9 +9,11 @@ use Rattle.std.proofs.Math.ListN.{length}
 use Rattle.rules.specs.Basic.{or_top}
 use Rattle.rules.specs.Tree.{Tree, blank}
 use Rattle.rules.specs.Store as store
-use Rattle.rules.specs.Moves.{Move, left, entered, Event, is_wind, Moves, moves_tree, route, route_length, trace}
+use Rattle.rules.specs.Moves.{Move, left, entered, Event, is_wind, Moves, route, trace}
+use Rattle.rules.proofs.Moves.{moves_tree, route_length}
 use Rattle.rules.specs.Leg.{Leg, going, up_to, leg_to, end_of, Handed}
-use Rattle.rules.specs.Stops.{Stepped, stepped, moves_end, leg_route}
+use Rattle.rules.specs.Stops.{Stepped}
+use Rattle.rules.proofs.Stops.{stepped, moves_end, leg_route}
 use Rattle.rules.specs.Act.{goes_on}
 use Rattle.layout.specs.Limits.{none_n}
 use Rattle.layout.specs.Records.{focus, target, handed, node_of, kind_n, parent_n, var_n, post_n}
@@ -21,19 +23,17 @@ use Rattle.layout.specs.View.{view_f, view, or_none, walk_of}
 use Rattle.layout.specs.Sound.{Whole, Sound}
 use Rattle.layout.specs.Made.{IsMade}
 use Rattle.layout.specs.Becomes.{Sized}
-use Rattle.layout.specs.laws.SoundLaws.{sound_view}
-use Rattle.layout.specs.laws.WalkLaws.{sized_self, made_seen, seen_made, parent_seen}
-use Rattle.layout.specs.laws.RouteLaws.{what_node, wind_kind, few_moves}
-use Rattle.layout.specs.laws.TellLaws.{parent, left_wind, entered_wind}
-use Rattle.layout.specs.laws.StrideLaws.{Rewalked}
-use Rattle.layout.specs.laws.HandedLaws.{top_kind, walking_at, target_made, under_way_lem, walks, over}
-use Rattle.layout.specs.laws.StopLaws.{FirstWind, no_wind, that_wind, Above, leg_left, leg_entered, leg_arrives}
-use Rattle.layout.specs.laws.LegLaws.{Moved, moved_then, moved_made, enters_first}
-
--- s became u by the leg l
-pub data Goes (s u : List ℕ) (l : Leg) : Type 0 where
-  goes_on_lem : (c : ℕ) (e : Event) → l.events ≡ e ∷ [] → l.handed ≡ or_none c → Moved s u l.moves (target s) c → Goes s u l
-  arrives : l.events ≡ [] → Moved s u l.moves none_n none_n → Goes s u l
+use Rattle.layout.proofs.SoundLaws.{sound_view}
+use Rattle.layout.proofs.WalkLaws.{sized_self, made_seen, seen_made, parent_seen}
+use Rattle.layout.proofs.RouteLaws.{what_node, wind_kind, few_moves}
+use Rattle.layout.proofs.TellLaws.{parent, left_wind, entered_wind}
+use Rattle.layout.proofs.StrideLaws.{Rewalked}
+use Rattle.layout.proofs.HandedLaws.{top_kind, walking_at, target_made, under_way_lem, walks, over}
+use Rattle.layout.specs.Legs.{FirstWind, no_wind, that_wind, Above}
+use Rattle.layout.proofs.StopLaws.{leg_left, leg_entered, leg_arrives}
+use Rattle.layout.specs.Legs.{Moved, enters_first}
+use Rattle.layout.proofs.LegLaws.{moved_then, moved_made}
+use Rattle.layout.specs.Legs.{Goes, goes_on_lem, arrives, leg_from}
 
 pub moved_focus : {s u : List ℕ} {ms : List Move} {a c : ℕ} → Moved s u ms a c → focus u ≡ end_of (view s).tree (focus s) ms
 unfolding view view_f fields_of
@@ -51,9 +51,6 @@ ends_left : (t : Tree) (f w : ℕ) (pre : List Move) → end_of t f (pre ++ left
 ends_left t f w [] = refl
 ends_left t f w (left n ∷ pre) = ends_left t (or_top (t.up n)) w pre
 ends_left t f w (entered n ∷ pre) = ends_left t n w pre
-
-abbrev pub leg_from : List ℕ → ℕ → Leg
-leg_from s a = up_to (view s).tree (route (view s).tree (focus s) a)
 
 -- it stops at g, hands the events es over, and the wind h waits to be entered
 pub record LegIs (s : List ℕ) (a g : ℕ) (es : List Event) (h : Option ℕ) : Type 0 where

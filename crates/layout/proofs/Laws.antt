@@ -6,9 +6,11 @@ use Rattle.std.proofs.Common.{sym, ◌∙◌, arith, lt-ltb, le-ltb, ne_eqb}
 use Rattle.std.proofs.Math.Path.{ap, fun_ext}
 use Rattle.std.proofs.Math.Bool.{cond}
 use Rattle.std.proofs.Math.Decide.{dec_lt, ℕ_discrete}
-use Rattle.rules.specs.Basic.{upd, upd_same, upd_other, eqb_self}
+use Rattle.rules.specs.Basic.{upd}
+use Rattle.rules.proofs.Basic.{upd_same, upd_other, eqb_self}
 use Rattle.layout.specs.Limits.{header, cell_size, node_size, cell_at, node_at, size_of}
-use Rattle.layout.specs.Bytes.{part, u16, put16, part_length, splice_length, splice_same, splice_before, splice_after, splice_apart, splice_drop, put16_length, u16_same, u16_other}
+use Rattle.layout.specs.Bytes.{part, u16, put16}
+use Rattle.layout.proofs.Bytes.{part_length, splice_length, splice_same, splice_before, splice_after, splice_apart, splice_drop, put16_length, u16_same, u16_other}
 use Rattle.layout.specs.Records.{head_of, head_n, with_head, with_made, with_focus, with_target, with_handed, vars, room, cell_of, with_cell, node_of, with_node, blank_node}
 use Rattle.layout.specs.Fields.{Fields, vars_f, room_f, cells, nodes, fields_of, Fit, past}
 

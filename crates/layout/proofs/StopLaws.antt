@@ -1,18 +1,21 @@
 -- Where a step of a walk stops, as the code finds it (document 02, W5): the first wind on the focus's way up to the meeting point is
 -- left; where there is none, the outermost wind on the target's way down from there is to be entered; else the target is reached.
 -- Assumes nothing.
-use Rattle.std.specs.Prelude.{◌≡◌, refl, ◌≢◌, ◌⊎◌, true, ℕ, ◌≤◌, ◌<◌, length}
+use Rattle.std.specs.Prelude.{◌≡◌, refl, ◌≢◌, ◌⊎◌, true, ℕ, ◌<◌, length}
 use Rattle.std.proofs.Common.{sym, ◌∙◌, inl, inr, arith}
 use Rattle.std.proofs.Math.Path.{ap}
 use Rattle.std.proofs.Math.Bool.{false}
 use Rattle.std.proofs.Math.Option.{none, some}
 use mathlib.Core.List.{List, [], ◌∷◌, ◌++◌, append_assoc, append-nil}
-use Rattle.rules.specs.Basic.{on, some≢none}
-use Rattle.rules.specs.Tree.{Tree, path, path_up}
-use Rattle.rules.specs.Moves.{Move, left, entered, node_of, Event, event_of, route, route_entered, trace, trace_append, is_wind, length_event}
-use Rattle.rules.specs.Route.{leave_first, route_self}
+use Rattle.rules.specs.Basic.{on}
+use Rattle.rules.proofs.Basic.{some≢none}
+use Rattle.rules.specs.Tree.{Tree, path}
+use Rattle.rules.proofs.Tree.{path_up}
+use Rattle.rules.specs.Moves.{Move, left, entered, node_of, Event, event_of, route, trace, is_wind}
+use Rattle.rules.proofs.Moves.{route_entered, trace_append, length_event}
+use Rattle.rules.proofs.Route.{leave_first, route_self}
 use Rattle.rules.specs.Leg.{up_to}
-use Rattle.rules.specs.Stops.{up_to_none, up_to_first}
+use Rattle.rules.proofs.Stops.{up_to_none, up_to_first}
 use Rattle.layout.specs.Records as records
 use Rattle.layout.specs.Records.{focus, kind_n, parent_n}
 use Rattle.layout.specs.Kinds.{is_out, IsWind}
@@ -21,17 +24,13 @@ use Rattle.layout.specs.Fields.{fields_of}
 use Rattle.layout.specs.Sound.{Whole}
 use Rattle.layout.specs.Made.{IsMade}
 use Rattle.layout.specs.Routes.{moves_from, moves_to, meeting, Over, OnWay}
-use Rattle.layout.specs.laws.SoundLaws.{what_wind, sound_fit}
-use Rattle.layout.specs.laws.Laws.{node_in, of_buffer}
-use Rattle.layout.specs.laws.MoveLaws.{inner}
-use Rattle.layout.specs.laws.CheckLaws.{ins_focus, sound_rises}
-use Rattle.layout.specs.laws.WalkLaws.{made_seen, made_room, focus_made, out_up, in_above, parent_made, parent_seen}
-use Rattle.layout.specs.laws.RouteLaws.{proper, what_node, out_off, in_meets, below_over, meet_up, moves_entered, plain, risen}
-
--- the first wind of the moves ms is w, where it is left or entered; 0 where there is none
-pub data FirstWind (t : Tree) (move : ℕ → Move) (ms : List Move) (w : ℕ) : Type 0 where
-  no_wind : w ≡ 0 → trace t ms ≡ [] → FirstWind t move ms w
-  that_wind : (pre post : List Move) → ms ≡ pre ++ move w ∷ post → trace t pre ≡ [] → is_wind (t.what w) ≡ 1 → FirstWind t move ms w
+use Rattle.layout.proofs.SoundLaws.{what_wind, sound_fit}
+use Rattle.layout.proofs.Laws.{node_in, of_buffer}
+use Rattle.layout.proofs.MoveLaws.{inner}
+use Rattle.layout.proofs.CheckLaws.{ins_focus, sound_rises}
+use Rattle.layout.proofs.WalkLaws.{made_seen, made_room, focus_made, out_up, in_above, parent_made, parent_seen}
+use Rattle.layout.proofs.RouteLaws.{proper, what_node, out_off, in_meets, below_over, meet_up, moves_entered, plain, risen}
+use Rattle.layout.specs.Legs.{FirstWind, no_wind, that_wind, Picks, Stops, Above}
 
 -- no event of a node that is no wind, one of a wind
 quiet : (t : Tree) (m : Move) → is_wind (t.what (node_of m)) ≡ 0 → event_of t m ≡ []
@@ -44,25 +43,8 @@ quiet t m h = go (event_of t m) (length_event t m ∙ h)
 quiet_first : (t : Tree) (m : Move) (ms : List Move) → is_wind (t.what (node_of m)) ≡ 0 → trace t ms ≡ [] → trace t (m ∷ ms) ≡ []
 quiet_first t m ms h k = (λ i. quiet t m h i ++ k i)
 
--- r is the node n where it is a wind, else w
-abbrev pub Picks : List ℕ → ℕ → ℕ → ℕ → Type 0
-Picks s n w r = (IsWind (kind_n (records.node_of s n)) × (r ≡ n)) ⊎ ((IsWind (kind_n (records.node_of s n)) → ⊥) × (r ≡ w))
-
--- a step may stop at the wind w's parent, whose way meets the focus's at m; 0 is no wind
-abbrev pub Stops : List ℕ → ℕ → ℕ → Type 0
-Stops s w m = (w ≡ 0) ⊎ (IsMade s (parent_n (records.node_of s w)) × (meeting s (parent_n (records.node_of s w)) ≡ m))
-
 stops_at : (s : List ℕ) {p q m : ℕ} → p ≡ q → IsMade s p → meeting s p ≡ m → IsMade s q × (meeting s q ≡ m)
 stops_at s e made met = (rw (← e) made, rw (← e) met)
-
--- the climb from the target a has come to c, over nodes that are out; w is the last wind passed, 0 where there was none
-pub record Above (s : List ℕ) (a c w : ℕ) : Type 0 where
-  pub made : IsMade s c
-  pub same : meeting s c ≡ meeting s a
-  pub passed : List Move
-  pub way : route (view s).tree (focus s) a ≡ route (view s).tree (focus s) c ++ passed
-  pub first : FirstWind (view s).tree entered passed w
-  pub stop : Stops s w (meeting s a)
 
 -- the climb from the focus towards m has come to g, over no wind
 pub record Below (s : List ℕ) (m g : ℕ) : Type 0 where

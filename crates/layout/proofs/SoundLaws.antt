@@ -7,17 +7,21 @@ use Rattle.std.proofs.Math.Bool.{false}
 use Rattle.std.proofs.Math.Option.{Option, none, some}
 use Rattle.std.proofs.Math.Decide.{ℕ_discrete, dec_lt}
 use mathlib.Core.List.{List}
-use Rattle.rules.specs.Basic.{on, clash, some≢none}
-use Rattle.rules.specs.Tree.{blank, top, binding, wind, Proper, Ranked, path, path_once, on_path_up, rank_depth}
-use Rattle.rules.specs.Modes.{count_on, count_le}
+use Rattle.rules.specs.Basic.{on}
+use Rattle.rules.proofs.Basic.{clash, some≢none}
+use Rattle.rules.specs.Tree.{blank, top, binding, wind, Proper, Ranked, path}
+use Rattle.rules.proofs.Tree.{path_once, on_path_up, rank_depth}
+use Rattle.rules.proofs.Modes.{count_on, count_le}
 use Rattle.rules.specs.Store as store
 use Rattle.layout.specs.Bytes.{u16}
 use Rattle.layout.specs.Records.{kind_n, parent_n, var_n, post_n, depth_n, top_node, blank_node}
-use Rattle.layout.specs.Kinds.{IsBinding, IsWind, IsNode, by_kind, is_in, is_out, kind_binding, kind_wind, kind_node}
+use Rattle.layout.specs.Kinds.{IsBinding, IsWind, IsNode, by_kind, is_in, is_out}
+use Rattle.layout.proofs.NodeKinds.{kind_binding, kind_wind, kind_node}
 use Rattle.layout.specs.Fields.{Fields, fields_of, Fit, room_f, made_f, focus_f, vars_f}
 use Rattle.layout.specs.View.{what_n, up_n, tree_f, view_f, view}
 use Rattle.layout.specs.Sound.{NodeOk, depth_above, HeadOk, CellsOk, Shape, Ins, SoundF, Headed, Whole}
-use Rattle.layout.specs.laws.Laws.{OfBuffer, of_buffer}
+use Rattle.layout.proofs.Laws.{OfBuffer, of_buffer}
+use Rattle.layout.specs.Checks.{InnersOk, BlanksOk}
 
 -- ---- what a node's record says
 pub what_binding : (p : List ℕ) → IsBinding (kind_n p) → what_n p ≡ binding (var_n p)
@@ -85,13 +89,6 @@ place m n = go (ℕ_discrete n 0) (dec_lt n m)
     go (yes e) d = is_top e
     go (no e) (yes l) = is_inner (omega arith) l
     go (no e) (no l) = is_blank (omega arith)
-
--- ---- the same by numbers: the inner nodes are those from 1 to made, and the blank ones those from made on
-abbrev pub InnersOk : Fields → Type 0
-InnersOk f = (n : ℕ) → 1 ≤ n → n < made_f f → NodeOk (vars_f f) n (depth_above f n) (f.node n)
-
-abbrev pub BlanksOk : Fields → Type 0
-BlanksOk f = (n : ℕ) → made_f f ≤ n → n < room_f f → f.node n ≡ blank_node
 
 -- a blank node is no binding and no wind
 pub blank_no_node : (p : List ℕ) → p ≡ blank_node → IsNode (kind_n p) → ⊥

@@ -9,12 +9,13 @@ use mathlib.Core.List.{List, [], ◌++◌, append_assoc}
 use Rattle.std.proofs.Math.ListN.{length, get_or, replicate, length-append, length-replicate}
 use Rattle.std.proofs.lemmas.List.{get_or-replicate}
 use Rattle.layout.specs.Limits.{none_n, header, cell_size, node_size, cell_at, node_at, size_of}
-use Rattle.layout.specs.Bytes.{part, splice, u16, put16, part_length, part_at, part_left, part_right, part_bytes, splice_same, splice_again, splice_next, put16_length, Zeros, zeros_list, list_zeros, BytesTo}
+use Rattle.layout.specs.Bytes.{part, splice, u16, put16, Zeros, BytesTo}
+use Rattle.layout.proofs.Bytes.{part_length, part_at, part_left, part_right, part_bytes, splice_same, splice_again, splice_next, put16_length, zeros_list, list_zeros}
 use Rattle.layout.specs.Records.{head_of, head_n, with_head, head_b, vars, room, made, focus, target, handed, with_header, cell_of, with_cell, with_cells, whole_c, top_c, node_of, with_nodes, top_node, blank_node}
 use Rattle.layout.specs.Fields.{cells, nodes, Fit}
 use Rattle.layout.specs.Writes.{cells_b, nodes_b, open_b}
-use Rattle.layout.specs.laws.RecordLaws.{head_put, head_again, cell_length}
-use Rattle.layout.specs.laws.Laws.{node_in, cell_in}
+use Rattle.layout.proofs.RecordLaws.{head_put, head_again, cell_length}
+use Rattle.layout.proofs.Laws.{node_in, cell_in}
 
 -- ---- the header's numbers, written one after the other
 number_put : (s h : List ℕ) (k v : ℕ) → length h ≡ header → header ≤ length s → with_head (with_header s h) k v ≡ with_header s (put16 h (2 * k) v)

@@ -6,11 +6,16 @@ use Rattle.std.proofs.Common.{sym, ◌∙◌, inl, inr, le_refl, arith, length-a
 use Rattle.std.proofs.Math.Option.{Option, none, some}
 use mathlib.Core.List.{List, [], ◌∷◌, ◌++◌, append-nil, map}
 use Rattle.std.proofs.lemmas.List.{length-map}
-use Rattle.rules.specs.Basic.{on, clash, on_cases}
-use Rattle.rules.specs.Apart.{apart, apart_self}
-use Rattle.rules.specs.Tree.{What, blank, top, binding, wind, Tree, Proper, climb, path, downward, path_top, path_up, on_path_up, on_path_rank}
-use Rattle.rules.specs.Far.{far, far_lift, far_sym, far_self}
-use Rattle.rules.specs.Moves.{Event, left, entered, node_of, event_of, route, route_left, route_entered, route_length, trace, trace_append, is_wind, winds, length_event, length_trace}
+use Rattle.rules.specs.Basic.{on}
+use Rattle.rules.proofs.Basic.{clash, on_cases}
+use Rattle.rules.specs.Apart.{apart}
+use Rattle.rules.proofs.Apart.{apart_self}
+use Rattle.rules.specs.Tree.{What, blank, top, binding, wind, Tree, Proper, climb, path}
+use Rattle.rules.proofs.Tree.{downward, path_top, path_up, on_path_up, on_path_rank}
+use Rattle.rules.specs.Far.{far}
+use Rattle.rules.proofs.Far.{far_lift, far_sym, far_self}
+use Rattle.rules.specs.Moves.{Event, left, entered, node_of, event_of, route, trace, is_wind, winds}
+use Rattle.rules.proofs.Moves.{route_left, route_entered, route_length, trace_append, length_event, length_trace}
 use Rattle.layout.specs.Records as records
 use Rattle.layout.specs.Records.{made, focus, kind_n, parent_n, var_n, post_n, depth_n}
 use Rattle.layout.specs.Kinds.{by_kind, within, is_out, IsWind}
@@ -18,9 +23,9 @@ use Rattle.layout.specs.Fields.{fields_of, nodes}
 use Rattle.layout.specs.View.{what_n, tree_f, view_f, view}
 use Rattle.layout.specs.Sound.{Whole}
 use Rattle.layout.specs.Made.{IsMade}
-use Rattle.layout.specs.laws.Laws.{node_in, of_buffer}
-use Rattle.layout.specs.laws.SoundLaws.{sound_fit, sound_view, depth_few}
-use Rattle.layout.specs.laws.WalkLaws.{made_seen, seen_made, made_room, focus_made, seen_focus, out_up, in_above, parent_seen, parent_made}
+use Rattle.layout.proofs.Laws.{node_in, of_buffer}
+use Rattle.layout.proofs.SoundLaws.{sound_fit, sound_view, depth_few}
+use Rattle.layout.proofs.WalkLaws.{made_seen, seen_made, made_room, focus_made, seen_focus, out_up, in_above, parent_seen, parent_made}
 use Rattle.layout.specs.Routes.{first_on, meet, Over, moves_from, moves_to, left_events, entered_events, meeting, OnWay, Climbing}
 use Rattle.layout.specs.Events.{events_from, events_to}
 

@@ -16,12 +16,12 @@ use Rattle.layout.specs.View.{up_n, tree_f, view_f, view}
 use Rattle.layout.specs.Sound.{Whole}
 use Rattle.layout.specs.Events.{event_d, told, events_from, events_to}
 use Rattle.layout.specs.Made.{IsMade}
-use Rattle.layout.specs.laws.Laws.{node_in}
-use Rattle.layout.specs.laws.SoundLaws.{what_wind, up_node}
-use Rattle.layout.specs.laws.WalkLaws.{made_seen, made_room, focus_made, parent_seen, parent_made}
+use Rattle.layout.proofs.Laws.{node_in}
+use Rattle.layout.proofs.SoundLaws.{what_wind, up_node}
+use Rattle.layout.proofs.WalkLaws.{made_seen, made_room, focus_made, parent_seen, parent_made}
 use Rattle.layout.specs.Routes.{Over, moves_to, moves_from, left_events, entered_events, meeting, OnWay, told_at, Entering}
-use Rattle.layout.specs.laws.RouteLaws.{moves_entered, events_entered, events_none, meet_up, below_meet, plain, what_node, proper, risen}
-use Rattle.layout.specs.laws.EventLaws.{told_first, told_none, told_left, told_entered, told_length, told_next, told_prev}
+use Rattle.layout.proofs.RouteLaws.{moves_entered, events_entered, events_none, meet_up, below_meet, plain, what_node, proper, risen}
+use Rattle.layout.proofs.EventLaws.{told_first, told_none, told_left, told_entered, told_length, told_next, told_prev}
 
 -- ---- the events of one node
 no_wind : (e : Bool) (w : What) (p : ℕ) → is_wind w ≡ 0 → wind_event e w p ≡ []

@@ -11,7 +11,8 @@ use Rattle.std.proofs.Math.ListN.{length, length-append}
 use Rattle.rules.specs.Tree.{blank, top}
 use Rattle.rules.specs.Values.{unbound}
 use Rattle.rules.specs.Store.{home}
-use Rattle.rules.specs.Calls.{value_at, open_what, opened, open_values}
+use Rattle.rules.specs.Calls.{value_at, open_what, opened}
+use Rattle.rules.proofs.Calls.{open_values}
 use Rattle.layout.specs.Limits.{none_n, size_of}
 use Rattle.layout.specs.Opening.{OpenFits, top_cells}
 use Rattle.layout.specs.Records.{vars, room, made, focus, target, handed, ProperCell, bare_c, top_c, kind_n, stored_n, depth_n, top_node, blank_node}
@@ -21,11 +22,11 @@ use Rattle.layout.specs.View.{as_cell, what_n, up_n, tree_f, view_f, view, walk_
 use Rattle.layout.specs.Sound.{Shape, Whole, Sound}
 use Rattle.layout.specs.Made.{IsMade}
 use Rattle.layout.specs.Writes.{open_b}
-use Rattle.layout.specs.laws.Laws.{node_in, node_past, cell_in, cell_past, of_buffer}
-use Rattle.layout.specs.laws.RecordLaws.{bare_length, bare_whole, as_blank}
-use Rattle.layout.specs.laws.PlaceLaws.{opened_vars, opened_room, opened_made, opened_focus, opened_target, opened_handed, opened_size, opened_cell, opened_top, opened_blank}
-use Rattle.layout.specs.laws.SoundLaws.{what_top, what_blank, up_top, up_blank, in_top, in_blank, depth_top, depth_blank, shape_by_numbers, modes_by_numbers, headed_fit}
-use Rattle.layout.specs.laws.StrideLaws.{no_target, no_walk_lem}
+use Rattle.layout.proofs.Laws.{node_in, node_past, cell_in, cell_past, of_buffer}
+use Rattle.layout.proofs.RecordLaws.{bare_length, bare_whole, as_blank}
+use Rattle.layout.proofs.PlaceLaws.{opened_vars, opened_room, opened_made, opened_focus, opened_target, opened_handed, opened_size, opened_cell, opened_top, opened_blank}
+use Rattle.layout.proofs.SoundLaws.{what_top, what_blank, up_top, up_blank, in_top, in_blank, depth_top, depth_blank, shape_by_numbers, modes_by_numbers, headed_fit}
+use Rattle.layout.proofs.StrideLaws.{no_target, no_walk_lem}
 
 -- ---- an opened store t, with the bytes `rest` past its size
 pub record Opens (v n : ℕ) (tops rest t : List ℕ) : Type 0 where

@@ -1,0 +1,9 @@
+-- The bits of v come back from `to_bits`; the machine reads v from its bits (`to_z-of_z`).
+use Rattle.std.proofs.lemmas.Int.{to_z-of_z}
+use Rattle.std.specs.Int.{w32}
+use Rattle.layout.specs.Records.{value_c}
+use Rattle.layout.proofs.value_cell.Goals as goal
+
+pub returns : goal.returns
+unfolding value_c
+returns c = rw (c.to_bits-b.ensures, to_z-of_z w32 c.args.v c.ranges.v)
