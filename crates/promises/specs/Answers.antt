@@ -7,10 +7,6 @@ use Rattle.rules.specs.Tree.{What, blank, top, binding, wind}
 use Rattle.rules.specs.Values.{Cell, unbound, value}
 use Rattle.rules.specs.Moves.{Event}
 use Rattle.layout.specs.Events.{bit}
-use Rattle.promises.specs.declared.New.{New}
-use Rattle.promises.specs.declared.Seen.{Seen}
-use Rattle.promises.specs.declared.Switch.{Switch}
-use Rattle.promises.specs.declared.Step.{Step}
 use Rattle.promises.specs.declared.Answer.{Answer}
 use Rattle.promises.specs.declared.Answer.TheVariants.{Opened, Number, Made, Value, Switched, Stepped, Refused}
 use Rattle.promises.specs.declared.Refusal.{Refusal}

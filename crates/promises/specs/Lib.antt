@@ -1,6 +1,5 @@
--- What the store's calls answer and promise, in document 01's words, and what holds of all of them.
+-- What the store's calls answer and promise, in document 01's words. What holds of all of them is proved in proofs/.
 pub mod Answers
 pub mod Tables
 pub mod Promises
-pub mod Stable
 pub mod Calls

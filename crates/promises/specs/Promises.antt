@@ -1,11 +1,11 @@
 -- What each call promises, for all arguments and all memory lent: document 01, "What each call does" and "The numbers a
 -- call can give back". s and t are the store and the trace at entry, s' and t' at exit, n the numbers of the answer.
 -- Assumes nothing: these are definitions.
-use Rattle.std.specs.Prelude.{◌≡◌, ◌≢◌, Bool, true, false, ℕ, ◌*◌, ◌/◌, ◌≤◌, ◌<◌, List, [], ◌∷◌, ℤ, pos, length}
-use Rattle.std.proofs.Math.Option.{Option, none, some}
+use Rattle.std.specs.Prelude.{◌≡◌, ◌≢◌, true, ℕ, ◌/◌, ◌≤◌, ◌<◌, List, [], ◌∷◌, ℤ, pos, length}
+use Rattle.std.proofs.Math.Option.{none}
 use Rattle.std.proofs.Math.ListN as lists
 use Rattle.rules.specs.Basic.{or_top}
-use Rattle.rules.specs.Tree.{What, binding, wind}
+use Rattle.rules.specs.Tree.{binding, wind}
 use Rattle.rules.specs.Values.{Cell, unbound, value}
 use Rattle.rules.specs.Store.{Deep, home}
 use Rattle.rules.specs.Far.{Between}

@@ -1,23 +1,25 @@
 // What a call on the store answers, and document 01's numbers for it. What each call promises stands in specs/.
+#![tactic(auto)]
+
 ghost use Rattle.std.specs.Prelude.{◌≡◌, pos, true, false};
 ghost use Rattle.promises.specs.Answers.{number_of, numbers, flat, untold};
 
 // A new environment, and the events of making it.
-#[derive(Drop)]
+#[derive(Clone, Copy)]
 pub struct New {
     pub node: u16,
     pub events: u16,
 }
 
 // A value, and the number of the environment whose binding decides it, 0 for the top value.
-#[derive(Drop)]
+#[derive(Clone, Copy)]
 pub struct Seen {
     pub value: i32,
     pub by: u16,
 }
 
 // A switch: the new focus, the moves and the number of events.
-#[derive(Drop)]
+#[derive(Clone, Copy)]
 pub struct Switch {
     pub focus: u16,
     pub moves: u16,
@@ -26,7 +28,7 @@ pub struct Switch {
 
 // A step of a walk: the focus, the moves, and the event that it hands over, if any (1) or none (0): 1 entering or 0 leaving, its
 // thunk.
-#[derive(Drop)]
+#[derive(Clone, Copy)]
 pub struct Step {
     pub focus: u16,
     pub moves: u16,
@@ -36,7 +38,7 @@ pub struct Step {
 }
 
 // Why a call is refused.
-#[derive(Drop)]
+#[derive(Clone, Copy)]
 pub enum Refusal {
     Setup,
     Damaged,
@@ -51,7 +53,7 @@ pub enum Refusal {
 }
 
 // What a call answers: a case for each kind of answer, and one for the refusals.
-#[derive(Drop)]
+#[derive(Clone, Copy)]
 pub enum Answer {
     Opened,
     Number(u16),
@@ -64,7 +66,7 @@ pub enum Answer {
 
 // What an environment is, beside code 0: kind 1 the top; 2 a binding, first its variable, value its own value where state is 1;
 // 3 a wind, first its prelude, second its postlude; and its parent. What does not apply is 0, as all is beside a refusal's number.
-#[derive(Drop)]
+#[derive(Clone, Copy)]
 pub struct Told {
     pub value: i32,
     pub code: u16,
@@ -77,7 +79,7 @@ pub struct Told {
 
 // Document 01's numbers of an answer: the answer itself, its number, the moves, the number of events; of a value the decider,
 // of a step the event that it hands over.
-#[derive(Drop)]
+#[derive(Clone, Copy)]
 pub struct Flat {
     pub out: i32,
     pub code: u16,

@@ -5,15 +5,7 @@ use native.Mathlib.Omega.{arith}
 use lib.IntN.{ℤ}
 use mir.Syntax.{w32}
 use mir.ValLaws.{to_z_pos}
-use borrow.Author.Rules.{rules}
-use Rattle.promises.proofs.done.Statement.{statement}
-use Rattle.promises.proofs.done.Tie as tie
+use Rattle.promises.proofs.done.Goals as goal
 
-cast-t4 : tie.Need-overflow-cast-t4
-cast-t4 c = search rules
-
-returns : tie.Need-returns
+pub returns : goal.returns
 returns c = ap (λ (z : ℤ). record { out = z; code = 0; moves = c.args.moves; events = c.args.events; by = 0; decided = false; event = 0; thunk = 0 }) (to_z_pos w32 c.args.n (omega (arith, c.ranges.n.fits)))
-
-pub done-spec : {M : Type 1} → statement M
-done-spec = tie.close (tie.spec cast-t4 returns)
