@@ -13,16 +13,19 @@ use lib.ListN.{get_or, length, drop, length-drop}
 use borrow.Author.Tests.{eqb-true, eqb-false, eq-eqb, ne_eqb}
 use mir.Syntax.{w32}
 use mir.Val.{SFits, to_z}
-use Rattle.rules.specs.Basic.{eqb_self, or_top}
+use Rattle.rules.specs.Basic.{or_top}
+use Rattle.rules.proofs.Basic.{eqb_self}
 use Rattle.rules.specs.Tree.{binding, wind}
 use Rattle.rules.specs.Values.{Cell, unbound, value}
 use Rattle.rules.specs.Store.{home, goto}
-use Rattle.rules.specs.Moves.{Move, route, route_length, trace}
-use Rattle.rules.specs.Route.{route_self, far_between}
-use Rattle.rules.specs.Calls.{decider_at, decided_by, value_at, look_right, home_set, make, home_make, make_own, make_rest}
+use Rattle.rules.specs.Moves.{Move, route, trace}
+use Rattle.rules.proofs.Moves.{route_length}
+use Rattle.rules.proofs.Route.{route_self, far_between}
+use Rattle.rules.specs.Calls.{decider_at, decided_by}
+use Rattle.rules.proofs.Calls.{look_right, home_set, home_make, make_own, make_rest}
 use Rattle.rules.specs.Refusals.{setup}
-use Rattle.rules.specs.Demands.{goto_switches}
-use Rattle.rules.specs.Effects.{made_node, set_done}
+use Rattle.rules.proofs.Demands.{goto_switches}
+use Rattle.rules.proofs.Effects.{made_node, set_done}
 use Rattle.layout.specs.Limits.{none_n, size_of}
 use Rattle.layout.specs.Records.{vars, focus, target, bare_c, bits_c, cell_of, node_of, parent_n}
 use Rattle.layout.specs.Fields.{fields_of, past}
@@ -34,13 +37,14 @@ use Rattle.layout.specs.Routes.{moves_from, moves_to}
 use Rattle.layout.specs.Events.{events_from, events_to}
 use Rattle.layout.specs.Writes.{set_b, bind_b, wind_b, open_b}
 use Rattle.layout.specs.Events.{told}
-use Rattle.layout.specs.laws.Laws.{cell_in}
-use Rattle.layout.specs.laws.SoundLaws.{sound_view}
-use Rattle.layout.specs.laws.WalkLaws.{made_seen, focus_made}
-use Rattle.layout.specs.laws.Reading.{binder_of, number_is, FoundAt, top_up, up_is}
-use Rattle.layout.specs.laws.StrideLaws.{still_sound, outside_sound}
-use Rattle.layout.specs.laws.OpenLaws.{opens}
-use Rattle.layout.specs.laws.GrowLaws.{set_becomes, bind_becomes, wind_becomes, can_grow, is_binding, is_wind_lem}
+use Rattle.layout.proofs.Laws.{cell_in}
+use Rattle.layout.proofs.SoundLaws.{sound_view}
+use Rattle.layout.proofs.WalkLaws.{made_seen, focus_made}
+use Rattle.layout.specs.Deciders.{binder_of, FoundAt}
+use Rattle.layout.proofs.Reading.{number_is, top_up, up_is}
+use Rattle.layout.proofs.StrideLaws.{still_sound, outside_sound}
+use Rattle.layout.proofs.OpenLaws.{opens}
+use Rattle.layout.proofs.GrowLaws.{set_becomes, bind_becomes, wind_becomes, can_grow, is_binding, is_wind_lem}
 use Rattle.promises.specs.declared.Answer.TheVariants.{Opened, Number, Made, Switched, Refused}
 use Rattle.promises.specs.declared.Refusal.TheVariants.{Setup, Damaged, NoVariable, NoEnvironment, Unbound, Full, TraceRoom, Top, Walking}
 use Rattle.promises.specs.Answers.{Numbers, refusal, done, seen, numbers}

@@ -10,6 +10,7 @@ use lib.ListN.{length, length-append}
 use lib.IntN.{pos}
 use Rattle.rules.specs.Store as store
 use Rattle.rules.specs.Moves as moves
+use Rattle.rules.proofs.Moves as moves_proved
 use Rattle.rules.specs.Leg.{Leg, leg_to}
 use Rattle.rules.specs.Act.{step, shown, leg_in, leg_of, goes_on, walk_by}
 use Rattle.layout.specs.Limits.{none_n}
@@ -20,12 +21,13 @@ use Rattle.layout.specs.Sound.{Whole, Sound}
 use Rattle.layout.specs.Events.{bit}
 use Rattle.layout.specs.Made.{IsMade}
 use Rattle.layout.specs.Routes.{moves_to, meeting}
-use Rattle.layout.specs.laws.WalkLaws.{made_seen}
-use Rattle.layout.specs.laws.StrideLaws.{none_is, some_is, with_target_lem, Rewalked, target_written, handed_written}
-use Rattle.layout.specs.laws.HandedLaws.{under_way_lem, walks, over, rewalked_then, made_some}
-use Rattle.layout.specs.laws.StopLaws.{FirstWind, Stops, Above}
-use Rattle.layout.specs.laws.LegLaws.{Moved, enters_first}
-use Rattle.layout.specs.laws.StepLaws.{Goes, moved_focus, moved_by, leg_from, LegIs, leaves, enters, reaches, gone_on, gone_there, leg_few, leg_is, then_onward, leg_joined, goes_sound}
+use Rattle.layout.proofs.WalkLaws.{made_seen}
+use Rattle.layout.proofs.StrideLaws.{none_is, some_is, with_target_lem, Rewalked, target_written, handed_written}
+use Rattle.layout.proofs.HandedLaws.{under_way_lem, walks, over, rewalked_then, made_some}
+use Rattle.layout.specs.Legs.{FirstWind, Stops, Above}
+use Rattle.layout.specs.Legs.{Moved, enters_first}
+use Rattle.layout.specs.Legs.{Goes, leg_from}
+use Rattle.layout.proofs.StepLaws.{moved_focus, moved_by, LegIs, leaves, enters, reaches, gone_on, gone_there, leg_few, leg_is, then_onward, leg_joined, goes_sound}
 use Rattle.promises.specs.declared.Step.{Step}
 use Rattle.promises.specs.declared.Answer.TheVariants.{Number, Stepped, Refused}
 use Rattle.promises.specs.declared.Refusal.TheVariants.{Damaged, NoEnvironment, Walking, NotWalking}
@@ -64,7 +66,7 @@ module _ {s u : List ℕ} {g b c : ℕ} {h : Option ℕ} (m : Moved s u (moves.r
   at_stop is = moved_focus (moved_by is.moves m) ∙ is.stop
 
   leg_counted : {es : List moves.Event} → LegIs s (target s) g es h → length (leg_from s (target s)).moves ≡ moves_to s g
-  leg_counted is = ap length is.moves ∙ moves.route_length (view s).tree (focus s) g
+  leg_counted is = ap length is.moves ∙ moves_proved.route_length (view s).tree (focus s) g
 
   on_told : {e : moves.Event} → LegIs s (target s) g (e ∷ []) h → (r : Step) → r ≡ record { focus = g; moves = moves_to s g; events = 1; event = bit e.entering; thunk = e.thunk }
       → numbers (Stepped r) ≡ handing (focus u) (length (leg_from s (target s)).moves) (leg_from s (target s)).events

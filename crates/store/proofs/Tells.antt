@@ -14,8 +14,8 @@ use Rattle.layout.specs.Records.{ProperCell, blank_cell, bits_c}
 use Rattle.layout.specs.View.{as_cell, view}
 use Rattle.layout.specs.Sound.{Sound}
 use Rattle.layout.specs.Made.{IsMade}
-use Rattle.layout.specs.laws.WalkLaws.{made_seen}
-use Rattle.layout.specs.laws.Reading.{FoundAt}
+use Rattle.layout.proofs.WalkLaws.{made_seen}
+use Rattle.layout.specs.Deciders.{FoundAt}
 use Rattle.promises.specs.Answers.{untold, tell_binding, telling}
 use Rattle.promises.specs.Promises.{meaning, at, tells, TellPromise}
 use Rattle.store.specs.Cells.{of_parts}

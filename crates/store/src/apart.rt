@@ -3,7 +3,7 @@ ghost use Rattle.std.specs.Prelude.{◌≡◌, ◌≤◌};
 ghost use Rattle.layout.specs.Sound.{Whole};
 ghost use Rattle.layout.specs.Made.{IsMade};
 ghost use Rattle.layout.specs.Routes.{moves_from};
-ghost use Rattle.layout.specs.laws.FarLaws.{depth_at, Lifted};
+ghost use Rattle.layout.specs.Lifts.{depth_at, Lifted};
 
 use crate::records::{depth_of, parent_of};
 

@@ -5,12 +5,12 @@ ghost use Rattle.rules.specs.Modes.{count};
 ghost use Rattle.rules.specs.Leg.{Handed};
 ghost use Rattle.layout.specs.Limits.{max_vars, bare_size, node_size};
 ghost use Rattle.layout.specs.Records.{made, focus, ProperCell, top_c, parent_n, var_n, post_n, stored_n, blank_cell, top_node};
-ghost use Rattle.layout.specs.laws.CheckLaws.{mode_f, Counted, Rises, AllRise};
+ghost use Rattle.layout.specs.Checks.{mode_f, Counted, Rises, AllRise};
 ghost use Rattle.layout.specs.Fields.{fields_of, nodes};
 ghost use Rattle.layout.specs.View.{view};
 ghost use Rattle.layout.specs.Made.{IsMade};
 ghost use Rattle.layout.specs.Sound.{Says, NodeOk, depth_above, Headed, CellsOk, Shape, Ins, Whole, WalkOk, Sound};
-ghost use Rattle.layout.specs.laws.SoundLaws.{InnersOk, BlanksOk};
+ghost use Rattle.layout.specs.Checks.{InnersOk, BlanksOk};
 
 use crate::apart::lift;
 use crate::kinds::{is_in, is_out, is_wind};
@@ -176,7 +176,7 @@ fn rises(s: &[u8], n: usize) -> bool
 }
 
 // What a pass over the nodes finds: whether all is as it should be, and then how many are in.
-#[derive(Drop)]
+#[derive(Clone, Copy)]
 struct Pass {
     ok: bool,
     ins: usize,

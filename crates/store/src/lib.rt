@@ -1,4 +1,6 @@
 // The store: bindings and winds on a tree in lent bytes, and the walk of its focus. Fourteen calls, and nothing else is public.
+#![tactic(auto)]
+
 ghost use Rattle.std.specs.Prelude.{◌≡◌, false, [], ◌∷◌, ◌<◌, ◌≤◌, length};
 ghost use Rattle.layout.specs.Limits.{none_n, event_size};
 ghost use Rattle.layout.specs.Records.{vars, focus, target};
@@ -338,8 +340,7 @@ fn openable(v: usize, n: usize, tops: &[u8], s: &[u8]) -> bool
 
 // Only the top is made and is the focus; the top cells are those handed in.
 pub fn open(v: u32, n: u32, tops: &[u8], s: &mut [u8]) -> Answer
-    ensures open_promise { OpenPromise v n tops.now s.old s.new (numbers result) }
-    ensures tops_value { tops.now ≡ tops.now }
+    ensures { OpenPromise v n tops.now s.old s.new (numbers result) }
 {
     let vars = v as usize;
     let nodes = n as usize;

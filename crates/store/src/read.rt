@@ -6,14 +6,14 @@ ghost use Rattle.layout.specs.Records.{vars, focus, ProperCell};
 ghost use Rattle.layout.specs.View.{as_cell, view};
 ghost use Rattle.layout.specs.Sound.{Whole};
 ghost use Rattle.layout.specs.Made.{IsMade};
-ghost use Rattle.layout.specs.laws.Reading.{binder_of, Ahead, last_below, FoundAt};
+ghost use Rattle.layout.specs.Deciders.{binder_of, Ahead, last_below, FoundAt};
 
 use crate::kinds::is_out;
 use crate::records::{bare_of, cell, focus_of, kind_of, node, parent_of, stored_of, var_of};
 use layout::Store;
 
 // The decider by its number, 0 where the top value decides, and its own value.
-#[derive(Drop)]
+#[derive(Clone, Copy)]
 pub(crate) struct Found {
     pub by: usize,
     pub cell: [u8; Store::BARE],

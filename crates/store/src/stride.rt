@@ -8,9 +8,9 @@ ghost use Rattle.layout.specs.View.{view, or_none};
 ghost use Rattle.layout.specs.Sound.{Says, Whole, Sound};
 ghost use Rattle.layout.specs.Made.{IsMade};
 ghost use Rattle.layout.specs.Routes.{moves_to, meeting, OnWay};
-ghost use Rattle.layout.specs.laws.LegLaws.{enters_first, Moved};
-ghost use Rattle.layout.specs.laws.StopLaws.{FirstWind, Picks, Stops, Above};
-ghost use Rattle.layout.specs.laws.StepLaws.{leg_from, Goes};
+ghost use Rattle.layout.specs.Legs.{enters_first, Moved};
+ghost use Rattle.layout.specs.Legs.{FirstWind, Picks, Stops, Above};
+ghost use Rattle.layout.specs.Legs.{leg_from, Goes};
 ghost use Rattle.promises.specs.declared.Answer.TheVariants as Answer;
 ghost use Rattle.rules.specs.Act.{step};
 ghost use Rattle.promises.specs.Answers.{numbers, handing};
@@ -69,7 +69,7 @@ fn wind_or(s: &[u8], n: usize, w: usize) -> usize
 }
 
 // Where the climb from the target ends, and the last wind on it, 0 where there is none.
-#[derive(Drop)]
+#[derive(Clone, Copy)]
 struct Rise {
     at: usize,
     wind: usize,

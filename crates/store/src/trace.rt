@@ -16,7 +16,7 @@ use crate::records::{focus_of, kind_of, note, parent_of, post_of, var_of};
 // ---- before the walk: how many moves and events
 
 // A climb: where it ended, over how many nodes, and how many of them are winds.
-#[derive(Drop)]
+#[derive(Clone, Copy)]
 pub(crate) struct Climb {
     pub at: usize,
     pub moves: usize,

@@ -1,0 +1,7 @@
+use Rattle.layout.specs.Made.{IsFull}
+use Rattle.layout.proofs.CheckLaws.{says_eq}
+use Rattle.store.proofs.made.is_full.Goals as goal
+
+pub returns : goal.returns
+unfolding IsFull
+returns c = rw (← c.made_of.ensures.0, ← c.room_of.ensures.0) (says_eq c.made_of.result c.room_of.result)

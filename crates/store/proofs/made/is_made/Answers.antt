@@ -1,0 +1,7 @@
+use Rattle.layout.specs.Made.{IsMade}
+use Rattle.layout.proofs.CheckLaws.{says_lt}
+use Rattle.store.proofs.made.is_made.Goals as goal
+
+pub returns : goal.returns
+unfolding IsMade
+returns c = rw (← c.made_of.ensures.0) (says_lt c.args.a c.made_of.result)

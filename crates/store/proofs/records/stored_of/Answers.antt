@@ -1,0 +1,6 @@
+use Rattle.layout.specs.Records.{stored_n}
+use Rattle.store.proofs.records.stored_of.Goals as goal
+
+pub returns : goal.returns
+unfolding stored_n
+returns c = c.cell_in.ensures

@@ -1,0 +1,7 @@
+use mathlib.Core.Path.{refl}
+use Rattle.layout.specs.Records.{turn_n}
+use Rattle.store.proofs.records.turn_node.Goals as goal
+
+pub returns : goal.returns
+unfolding turn_n
+returns c = refl
