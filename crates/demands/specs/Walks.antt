@@ -1,6 +1,6 @@
 -- A walk in steps, over the bytes of the store: one finished walk's calls together, from its begin to the step that says done, with
 -- the host's looks, peeks, fars, sets and heres between; a walk that is under way; begin and drop. The calls are a run (`Doors`), each
--- keeping its promise. `Along` and `Finished` have the proofs, `Demands` the demand.
+-- keeping its promise. `Along` and `Finished` of proofs/ have the proofs, `Demands` the demand.
 -- From document 02, W5, with demand 3's words. Assumes nothing: these are definitions.
 use Rattle.std.specs.Prelude.{◌≡◌, ◌≢◌, Bool, true, false, ℕ, suc, ◌+◌, ◌≤◌, List, [], ◌∷◌, ◌++◌, map, reverse, ℤ, pos, length}
 use Rattle.std.specs.Bool.{xor}
@@ -11,7 +11,7 @@ use Rattle.rules.specs.Values.{value}
 use Rattle.rules.specs.Store.{move_to}
 use Rattle.rules.specs.Far.{Chain}
 use Rattle.rules.specs.Moves.{Move, left, entered, node_of, route, Event, trace}
-use Rattle.rules.specs.Act.{Call, stride, step, drop, done}
+use Rattle.rules.specs.Act.{Call, stride, step, drop}
 use Rattle.rules.specs.Runs.{replay}
 use Rattle.rules.specs.Deeds.{Deed, moves, sets, Deeds, moves_in}
 use Rattle.rules.specs.Thunks as thunks

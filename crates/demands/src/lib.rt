@@ -1,1 +1,2 @@
-// The crate is its definitions and theorems in specs/: what follows from the promises of the store's calls, with no code.
+// The crate is its statements in specs/ and its theorems in proofs/: what follows from the promises of the store's calls, with no code.
+#![tactic(auto)]

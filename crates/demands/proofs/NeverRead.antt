@@ -9,37 +9,43 @@ use Rattle.std.proofs.Math.Option.{none}
 use Rattle.std.proofs.Math.Decide.{ℕ_discrete, dec_lt}
 use mathlib.Core.List.{List, [], ◌∷◌}
 use Rattle.rules.specs.Basic.{or_top}
-use Rattle.rules.specs.Tree.{top, path_top}
+use Rattle.rules.proofs.Tree.{path_top}
 use Rattle.rules.specs.Values.{unbound}
 use Rattle.rules.specs.Store.{Store, Deep, home}
 use Rattle.rules.specs.Moves.{Event}
-use Rattle.rules.specs.Calls.{decider_at, value_at, look_right, open_what}
+use Rattle.rules.specs.Calls.{decider_at, value_at, open_what}
+use Rattle.rules.proofs.Calls.{look_right}
 use Rattle.rules.specs.World.{World}
 use Rattle.rules.specs.Act.{Call, Outcome, act}
 use Rattle.rules.specs.Effects.{SameDeep}
 use Rattle.layout.specs.Limits.{event_size, size_of}
-use Rattle.layout.specs.Records.{vars, room, made, focus, bare_c, top_c}
+use Rattle.layout.specs.Records.{vars, room, made, bare_c, top_c}
 use Rattle.layout.specs.Fields.{fields_of, nodes}
 use Rattle.layout.specs.View.{as_cell, what_n, up_n, tree_f, view_f, view}
 use Rattle.layout.specs.Sound.{Sound}
 use Rattle.layout.specs.Made.{IsMade}
 use Rattle.layout.specs.Events.{events_b, told}
-use Rattle.layout.specs.laws.EventLaws.{events_length}
-use Rattle.layout.specs.laws.Laws.{of_buffer, cell_past}
-use Rattle.layout.specs.laws.SoundLaws.{what_top, what_blank, up_top, up_blank, Place, is_top, is_inner, is_blank, place, blank_node_lem, sound_fit, sound_view}
-use Rattle.layout.specs.laws.WalkLaws.{made_seen, seen_made}
+use Rattle.layout.proofs.EventLaws.{events_length}
+use Rattle.layout.proofs.Laws.{of_buffer, cell_past}
+use Rattle.layout.proofs.SoundLaws.{what_top, what_blank, up_top, up_blank, Place, is_top, is_inner, is_blank, place, blank_node_lem, sound_fit, sound_view}
+use Rattle.layout.proofs.WalkLaws.{made_seen, seen_made}
 use Rattle.layout.specs.Bytes.{Bytes}
-use Rattle.layout.specs.laws.Same.{same_meant, AgreeTo, agree_vars, agree_room, agree_view, agree_walk, agree_sound, agree_back}
-use Rattle.layout.specs.laws.StrideLaws.{walk_once}
+use Rattle.layout.proofs.Same.{same_meant, agree_vars, agree_room, agree_view, agree_walk, agree_sound, agree_back}
+use Rattle.layout.specs.Agreeing.{AgreeTo}
+use Rattle.layout.proofs.StrideLaws.{walk_once}
 use Rattle.layout.specs.Opening.{top_cells}
 use Rattle.promises.specs.declared.Told.{Told}
 use Rattle.promises.specs.Answers.{Numbers, refusal, telling}
-use Rattle.promises.specs.Tables.{First, first_one}
-use Rattle.promises.specs.Stable.{sound_stable, made_stable}
+use Rattle.promises.specs.Tables.{First}
+use Rattle.promises.proofs.Tables.{first_one}
+use Rattle.promises.proofs.Stable.{sound_stable, made_stable}
 use Rattle.promises.specs.Promises.{meaning, world, at, room_for, damaged_row, environment_row, tells, TellPromise, Opened, Openable, OpenPromise}
-use Rattle.promises.specs.Calls.{Promised, table, Called, called, Code, is_done_lem, is_refused, code_of_lem, done_sound, opens, opens_not, tell_damaged, tell_unmade, tell_made}
+use Rattle.promises.specs.Calls.{Promised, table, Called, Code, is_done_lem, is_refused}
+use Rattle.promises.proofs.Calls.{called, code_of_lem, done_sound, opens, opens_not, tell_damaged, tell_unmade, tell_made}
 use Rattle.demands.specs.Tests.{size_at, traced_by}
-use Rattle.demands.specs.AsAct.{acted, numbers_of, keeps_size, AsAct, as_act}
+use Rattle.demands.specs.AsAct.{acted, numbers_of, AsAct}
+use Rattle.demands.proofs.AsAct.{keeps_size, as_act}
+use Rattle.demands.specs.Runs.{written}
 
 -- ---- a store that is not sound is refused as such
 pub damaged_only : (c : Call) (s t s' t' : List ℕ) (n : Numbers) → (Sound s → ⊥) → Called c s t s' t' n → n.code ≡ 2
@@ -101,14 +107,6 @@ unfolding world meaning
 same_world s t ok ok' b b' v r e =
     let (a, h) = walk_once ok ok' (ap (λ (w : World Deep). w.walk) e) in
     same_meant s t ok.whole ok'.whole b b' v r a h (deep_same (ap (λ (w : World Deep). w.store) e))
-
--- how many events a call with these numbers wrote to the trace: a step's is in its answer
-abbrev pub written : Call → Numbers → ℕ
-written (Call.ask q) n = n.events
-written (Call.make k) n = n.events
-written (Call.set x v) n = n.events
-written (Call.switch g) n = n.events
-written (Call.stride k) n = 0
 
 -- they are those that `act` tells the trace
 pub written_as : (c : Call) (n : Numbers) (o : Outcome (World Deep)) → n ≡ numbers_of c o → written c n ≡ length (traced_by c o.events)

@@ -7,14 +7,15 @@ use Rattle.rules.specs.Act.{Call}
 use Rattle.layout.specs.Limits.{size_of}
 use Rattle.layout.specs.Records.{vars, room}
 use Rattle.layout.specs.Becomes.{Sized}
-use Rattle.layout.specs.laws.WalkLaws.{sized_self}
+use Rattle.layout.proofs.WalkLaws.{sized_self}
 use Rattle.layout.specs.Bytes.{Bytes}
-use Rattle.layout.specs.laws.Same.{same_whole}
+use Rattle.layout.proofs.Same.{same_whole}
 use Rattle.promises.specs.declared.Told.{Told}
 use Rattle.promises.specs.Answers.{Numbers}
 use Rattle.promises.specs.Promises.{OpenPromise, TellPromise}
-use Rattle.promises.specs.Calls.{Promised, Called, called, Code, is_done_lem, is_refused, code_of_lem, done_sound, done_leaves}
-use Rattle.demands.specs.NeverRead.{Fate, both_refused, both_acted, fate, never_read, never_read_open, never_read_tell}
+use Rattle.promises.specs.Calls.{Promised, Called, Code, is_done_lem, is_refused}
+use Rattle.promises.proofs.Calls.{called, code_of_lem, done_sound, done_leaves}
+use Rattle.demands.proofs.NeverRead.{Fate, both_refused, both_acted, fate, never_read, never_read_open, never_read_tell}
 
 -- every call leaves the size, the length and the bytes past the size
 pub keeps : (c : Call) (s t s' t' : List ℕ) (n : Numbers) → Called c s t s' t' n → Sized s s'

@@ -8,29 +8,31 @@ use Prim.Native.Nat.{ℕ, suc, ◌≤◌}
 use mathlib.Core.List.{List, [], ◌∷◌, ◌++◌, map, map-append, append-nil}
 use Rattle.std.proofs.Math.ListN.{length}
 use Rattle.std.proofs.lemmas.List.{length-map}
-use Rattle.rules.specs.Basic.{clash}
-use Rattle.rules.specs.Store.{Deep, home, shallow, shallow_home, move_to}
-use Rattle.rules.specs.Moves.{route, Event, trace, trace_order}
+use Rattle.rules.proofs.Basic.{clash}
+use Rattle.rules.specs.Store.{Deep, home, shallow, move_to}
+use Rattle.rules.proofs.Store.{shallow_home}
+use Rattle.rules.specs.Moves.{route, Event, trace}
+use Rattle.rules.proofs.Moves.{trace_order}
 use Rattle.rules.specs.World.{Walk, World}
 use Rattle.rules.specs.Stops.{owed}
-use Rattle.rules.specs.Route.{route_self}
+use Rattle.rules.proofs.Route.{route_self}
 use Rattle.rules.specs.Refusals.{first}
-use Rattle.rules.specs.Act.{Goal, Call, stride, begin, step, Size, shown, is_walking, rows, done, answer_of, Outcome, outcome, act}
+use Rattle.rules.specs.Act.{Goal, Call, stride, begin, step, Size, shown, is_walking, rows, answer_of, Outcome, outcome, act}
 use Rattle.rules.specs.Agree as agree
 use Rattle.rules.specs.Agree.{held as held_in}
 use Rattle.rules.specs.Demands.{refusal_of}
 use Rattle.rules.specs.Places.{Due}
 use Rattle.rules.specs.Runs as runs
 use Rattle.rules.specs.Runs.{Asked, after, leaves, Mark, replay}
-use Rattle.rules.specs.Deeds.{Deed, moves, Deeds}
-use Rattle.rules.specs.Steps.{begin_answered, goto_answered, act_step}
+use Rattle.rules.specs.Deeds.{Deed, Deeds}
+use Rattle.rules.proofs.Steps.{begin_answered, goto_answered, act_step}
 use Rattle.rules.specs.Thunks as thunks
 use Rattle.rules.specs.Thunks.{Aside, Together}
-use Rattle.rules.specs.Going.{aside_walk, goes_on_lem}
+use Rattle.rules.proofs.Going.{aside_walk, goes_on_lem}
 use Rattle.rules.specs.OneWalk as onewalk
-use Rattle.rules.specs.OneWalk.{walk_together, walk_is_goto}
+use Rattle.rules.proofs.OneWalk.{walk_together, walk_is_goto}
 use Rattle.rules.specs.Ending as ending
-use Rattle.rules.specs.Ending.{walk_finishes}
+use Rattle.rules.proofs.Ending.{walk_finishes}
 use Rattle.layout.specs.Limits.{none_n}
 use Rattle.layout.specs.Records.{vars, focus, target, handed}
 use Rattle.layout.specs.Fields.{fields_of}
@@ -38,22 +40,28 @@ use Rattle.layout.specs.View.{view_f, view}
 use Rattle.layout.specs.Sound.{Sound}
 use Rattle.layout.specs.Bytes.{Bytes}
 use Rattle.layout.specs.Events.{told, events_to}
-use Rattle.layout.specs.laws.SoundLaws.{sound_view}
-use Rattle.layout.specs.laws.StrideLaws.{none_is}
-use Rattle.layout.specs.laws.WalkLaws.{sized_then, kept_self}
+use Rattle.layout.proofs.SoundLaws.{sound_view}
+use Rattle.layout.proofs.StrideLaws.{none_is}
+use Rattle.layout.proofs.WalkLaws.{sized_then, kept_self}
 use Rattle.promises.specs.Answers.{Numbers}
-use Rattle.promises.specs.Promises.{meaning, world, at, room_for, GotoPromise}
-use Rattle.promises.specs.Calls.{Promised, done_sound}
-use Rattle.demands.specs.Tests.{size_at, no_walk_lem}
-use Rattle.demands.specs.AsAct.{acted, keeps_size}
-use Rattle.demands.specs.Held.{SetsFit, held_with_sets}
+use Rattle.promises.specs.Promises.{meaning, world, room_for, GotoPromise}
+use Rattle.promises.specs.Calls.{Promised}
+use Rattle.promises.proofs.Calls.{done_sound}
+use Rattle.demands.specs.Tests.{size_at}
+use Rattle.demands.proofs.Tests.{no_walk_lem}
+use Rattle.demands.specs.AsAct.{acted}
+use Rattle.demands.proofs.AsAct.{keeps_size}
+use Rattle.demands.specs.Held.{SetsFit}
+use Rattle.demands.proofs.Held.{held_with_sets}
 use Rattle.demands.specs.OneStep.{owed_at}
-use Rattle.demands.specs.Doors.{Step, Run, over, next, answered, marks, asked, RunActs, run_acts, acts, one_left, bytes_one}
+use Rattle.demands.specs.Doors.{Step, Run, over, next, marks, asked, RunActs}
+use Rattle.demands.proofs.Doors.{run_acts, acts, one_left, bytes_one}
 use Rattle.demands.specs.Walks.{AsGoto, Begun, Finishes, InBytes, InTurn, NoDrop, NoSet, SoFar, UnderWay, WalkedInSteps, calling, hands_over, meanwhile, reported, says_done, steps}
-use Rattle.demands.specs.Along.{kept_world, code_none, nil, given, one_moves, one_events, one_code, one_answered, onward, backward, reports, steps_as, turned, sets_fit, AllOn, aimed, all_on, done_on, begun_there, begun_on, all_owed}
+use Rattle.demands.proofs.Along.{kept_world, code_none, nil, given, one_moves, one_events, one_code, one_answered, onward, backward, reports, steps_as, turned, sets_fit, AllOn, aimed, all_on, done_on, begun_there, begun_on, all_owed}
 
 -- it finishes
 finishes : (s v : List ℕ) (qs : List Step) → Run s qs v → Sound s → Finishes qs → thunks.Finishes (size_at s) (map asked qs) (world s)
+finishes s v [] _ ok f = elim f [ ]
 finishes s v (q ∷ []) (next u e p r) ok (says_done c n) = thunks.says_done (nil _ (sym (one_events s u q ok p) ∙ n))
 finishes s v (q ∷ qs) (next u e p r) ok (hands_over c n f) =
     go (given s u q ok p).events refl (sym (one_events s u q ok p) ∙ n)
@@ -111,6 +119,7 @@ none_asked [] h = refl
 none_asked (q ∷ qs) h = absurd (omega (arith, ap length h))
 
 finished : (s v : List ℕ) (qs : List Step) → Run s qs v → (ok : Sound s) → is_walking (world s).walk ≡ true → thunks.Finishes (size_at s) (map asked qs) (world s) → Finishes qs
+finished s v [] _ ok i fin = elim fin [ ]
 finished s v (q ∷ qs) (next u e p r) ok i fin = go (first_call fin) (λ w f. finished u v qs r (acts s u q ok p).sound (still_walks s u q ok p w) (backward s u q ok p (λ z w. thunks.Finishes z (map asked qs) w) f))
   where
     as_step : q.call ≡ stride step → given s u q ok p ≡ act (size_at s) (room_for q.lent) (stride step) (world s)

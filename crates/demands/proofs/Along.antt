@@ -8,27 +8,31 @@ use Rattle.std.proofs.Math.Option.{Option, none, some}
 use Rattle.std.proofs.Math.Decide.{dec_le}
 use mathlib.Core.List.{List, [], ◌∷◌, ◌++◌, map, map-append, append_assoc, append-nil}
 use Rattle.std.proofs.Math.ListN.{length}
-use Rattle.rules.specs.Basic.{clash, some≢none, on}
+use Rattle.rules.specs.Basic.{on}
+use Rattle.rules.proofs.Basic.{clash, some≢none}
 use Rattle.rules.specs.Tree.{Tree}
 use Rattle.rules.specs.Values.{value}
 use Rattle.rules.specs.Store as store
 use Rattle.rules.specs.Store.{Deep, home}
-use Rattle.rules.specs.Moves.{Move, Moves, moves_tree, route, route_length, Event}
+use Rattle.rules.specs.Moves.{Move, Moves, route, Event}
+use Rattle.rules.proofs.Moves.{moves_tree, route_length}
 use Rattle.rules.specs.World.{World}
 use Rattle.rules.specs.Leg.{Leg, arrived}
 use Rattle.rules.specs.Stops.{owed}
-use Rattle.rules.specs.Grounds.{each_call}
+use Rattle.rules.proofs.Grounds.{each_call}
 use Rattle.rules.specs.Refusals.{first}
 use Rattle.rules.specs.Act.{Stride, Call, stride, begin, step, drop, Free, Barred, Needing, steps as needs_step, drops as needs_drop, Size, shown, goal_of, leg_of, is_walking, rows, Answer, done, refused, code_of, moves_of, answer_of, events_of, becomes, Outcome, outcome, act}
 use Rattle.rules.specs.Agree as agree
-use Rattle.rules.specs.Agree.{held as held_in, held_meaning}
-use Rattle.rules.specs.Demands.{refusal_of, moves_determine}
+use Rattle.rules.specs.Agree.{held as held_in}
+use Rattle.rules.proofs.Agree.{held_meaning}
+use Rattle.rules.specs.Demands.{refusal_of}
+use Rattle.rules.proofs.Demands.{moves_determine}
 use Rattle.rules.specs.Calls.{value_at}
 use Rattle.rules.specs.Runs.{after, is_done}
 use Rattle.rules.specs.Deeds.{Deed, moves, sets}
 use Rattle.rules.specs.Thunks as thunks
 use Rattle.rules.specs.Thunks.{Aside, deeds_of, if_done}
-use Rattle.rules.specs.Going.{aside_walk, quiet, held_sound}
+use Rattle.rules.proofs.Going.{aside_walk, quiet, held_sound}
 use Rattle.layout.specs.Limits.{none_n}
 use Rattle.layout.specs.Records.{vars, focus, target, handed}
 use Rattle.layout.specs.Fields.{fields_of}
@@ -37,17 +41,22 @@ use Rattle.layout.specs.Sound.{Sound}
 use Rattle.layout.specs.Made.{IsMade}
 use Rattle.layout.specs.Bytes.{Bytes}
 use Rattle.layout.specs.Events.{told, events_to}
-use Rattle.layout.specs.laws.SoundLaws.{sound_view, sound_ranked}
-use Rattle.layout.specs.laws.StrideLaws.{none_is, walk_once}
+use Rattle.layout.proofs.SoundLaws.{sound_view, sound_ranked}
+use Rattle.layout.proofs.StrideLaws.{none_is, walk_once}
 use Rattle.promises.specs.Answers.{Numbers, done as done_with, handing}
 use Rattle.promises.specs.Promises.{meaning, world, at, room_for, damaged_row, variable_row, value_row, environment_row, walking_row, not_walking_row, StrideDone}
 use Rattle.promises.specs.Tables.{First}
 use Rattle.promises.specs.Calls.{Promised}
-use Rattle.demands.specs.Tests.{size_at, traced_by, seen_numbered, no_walk_lem, off_walk, walk_is, none_of, is_walking_lem}
-use Rattle.demands.specs.AsAct.{acted, numbers_of, keeps_size, told_none, traced_none}
-use Rattle.demands.specs.Held.{SetsFit, set_fits}
-use Rattle.demands.specs.OneStep.{heard_in, heard_as, owed_at, Stopped, steps_on}
-use Rattle.demands.specs.Doors.{Step, Run, over, next, answered, asked, acts, one_left, one_done, one_size}
+use Rattle.demands.specs.Tests.{size_at, traced_by}
+use Rattle.demands.proofs.Tests.{seen_numbered, no_walk_lem, off_walk, walk_is, none_of, is_walking_lem}
+use Rattle.demands.specs.AsAct.{acted, numbers_of}
+use Rattle.demands.proofs.AsAct.{keeps_size, told_none, traced_none}
+use Rattle.demands.specs.Held.{SetsFit}
+use Rattle.demands.proofs.Held.{set_fits}
+use Rattle.demands.specs.OneStep.{heard_in, heard_as, owed_at, Stopped}
+use Rattle.demands.proofs.OneStep.{steps_on}
+use Rattle.demands.specs.Doors.{Step, Run, over, next, answered, asked}
+use Rattle.demands.proofs.Doors.{acts, one_left, one_done, one_size}
 use Rattle.demands.specs.Walks.{Begun, Finishes, InBytes, InTurn, no_call, call, Stands, UnderWay, Untraced, calling, hands_over, heard, meanwhile, reported, says_done, sets_if, steps}
 
 -- ---- a sound store is a world that the rules keep
@@ -169,7 +178,7 @@ set_fitting s u t t' n (Call.make k) b p true h ds f = f
 set_fitting s u t t' n (Call.switch g) b p true h ds f = f
 set_fitting s u t t' n (stride k) b p true h ds f = f
 set_fitting s u t t' n c b p false h ds f = f
-set_fitting s u t t' n (Call.set x z) b (p, e) true h ds f = go p.answers.first
+set_fitting s u t t' n (Call.set x z) b p true h ds f = go p.0.answers.first
   where
     code : n.code ≡ 0
     code = eqb-true n.code 0 h
@@ -179,7 +188,7 @@ set_fitting s u t t' n (Call.set x z) b (p, e) true h ds f = go p.answers.first
     go (inr (o, inl (k, w))) = absurd (omega (arith, code))
     go (inr (o, inr (known, rest))) =
         let inside : x < vars s = lt_of (vars s) x known in
-        (inside, set_fits s u x z n b inside (p.answers.done code), f)
+        (inside, set_fits s u x z n b inside (p.0.answers.done code), f)
 
 moves_fit : (k : ℕ) (ms : List Move) (xs ds : List Deed) → SetsFit k (xs ++ ds) → SetsFit k (map moves ms ++ xs ++ ds)
 moves_fit k [] xs ds f = f
@@ -305,6 +314,11 @@ module _ (s u t t' : List ℕ) (n : Numbers) (ok : Sound s) (on : target s ≢ n
   one_on still c p (inr (inl b)) = (aside_on c p (inr b), (same_walk c p (inr b)).0)
   one_on still (stride step) p (inr (inr needs_step)) = (step_on p, aims_on (steps_on s t u t' n ok on p).1.stops still)
   one_on still (stride drop) p (inr (inr needs_drop)) = let (c, o) = drops s t u t' n ok on p in absurd (still o.target)
+  one_on still (Call.ask _) p (inr (inr x5)) = elim x5 [ ]
+  one_on still (Call.make _) p (inr (inr x6)) = elim x6 [ ]
+  one_on still (Call.set _ _) p (inr (inr x8)) = elim x8 [ ]
+  one_on still (Call.switch _) p (inr (inr x8)) = elim x8 [ ]
+  one_on still (stride (begin _)) p (inr (inr x11)) = elim x11 [ ]
 
 -- all of them, from any store of it
 pub record AllOn (s : List ℕ) (a : ℕ) (qs : List Step) (u : List ℕ) : Type 0 where
@@ -347,6 +361,7 @@ all_on s v (q ∷ qs) (next u e p r) ok (on, h) =
 
 -- up to the step that says done
 pub done_on : (s v : List ℕ) (qs : List Step) → Run s qs v → Sound s → target s ≢ none_n → Finishes qs → AllOn s (target s) qs v
+done_on s v [] _ ok on f = elim f [ ]
 done_on s v (q ∷ []) (next u e p over) ok on (says_done {f} {t} {t'} {n} c k) = more_on s u v q [] (step_on s u t t' n ok on p) (none_on u (target s))
 done_on s v (q ∷ qs) (next u e p r) ok on (hands_over {f} {t} {t'} {n} c k fin) =
     let aims : target u ≡ target s = hands_on (steps_on s t u t' n ok on p).1.stops k in
