@@ -1,4 +1,6 @@
 // The lines that a run prints, each written from the front of a lent line buffer; the answer is its length.
+#![tactic(auto)]
+
 mod writing;
 
 ghost use Rattle.std.specs.Prelude.{◌+◌, ◌≤◌, ◌++◌, length};
@@ -19,7 +21,7 @@ impl Print {
 
 // What a call answers: nothing on a refusal, else a number, or a value and the number of its decider. Of what a binding holds: nothing
 // where it is unbound, else a number.
-#[derive(Drop)]
+#[derive(Clone, Copy)]
 pub enum Out {
     None,
     Number(i32),
@@ -27,7 +29,7 @@ pub enum Out {
 }
 
 // What is printed of one operation: its number, the answer number, the answer with its decider, moves and events.
-#[derive(Drop)]
+#[derive(Clone, Copy)]
 pub struct Report {
     pub op: u32,
     pub code: u32,

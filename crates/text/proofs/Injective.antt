@@ -18,7 +18,7 @@ use Rattle.text.specs.Every.{All}
 use Rattle.text.specs.Decimal.{decimal, whole}
 use Rattle.text.specs.DecimalLaws.{decimal_inj}
 use Rattle.text.specs.ReadBack.{whole_inj}
-use Rattle.text.specs.Keys.{text, Starts}
+use Rattle.text.specs.Keys.{text}
 use Rattle.text.specs.Lines.{key, operands, pair, written}
 use Rattle.text.proofs.KeyTable.{alone}
 use Rattle.text.proofs.Pairs.{no_comma}

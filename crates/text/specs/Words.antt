@@ -1,5 +1,4 @@
 -- Quoted text as bytes. Assumes nothing.
-use mathlib.Core.List as List
 use Rattle.std.specs.Prelude.{List, ℕ}
 use Prim.Native.Char.{code}
 use Prim.Native.String.{String, [], ◌∷◌}

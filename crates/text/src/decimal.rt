@@ -4,14 +4,14 @@ ghost use Rattle.text.specs.Finds.{Finds};
 ghost use Rattle.text.specs.Numbers.{natural_of, whole_of, Grown, Within, Valued, Counted, misbegun};
 
 // A number from 0 up, or no such decimal.
-#[derive(Drop)]
+#[derive(Clone, Copy)]
 pub(crate) enum Natural {
     Value(u32),
     Bad,
 }
 
 // A value, or no such decimal.
-#[derive(Drop)]
+#[derive(Clone, Copy)]
 pub(crate) enum Whole {
     Value(i32),
     Bad,

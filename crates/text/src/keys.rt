@@ -4,7 +4,7 @@ ghost use Rattle.std.specs.Prelude.{◌≡◌, ◌<◌};
 ghost use Rattle.text.specs.Finds.{Tells};
 ghost use Rattle.text.specs.Keys.{entry, word_at, Starts, Searched};
 
-#[derive(Drop)]
+#[derive(Clone, Copy)]
 pub(crate) enum Word {
     Vars,
     Nodes,
@@ -21,7 +21,7 @@ pub(crate) enum Word {
 }
 
 // A key word with its '=', the length of both, how many numbers follow, and which word it is.
-#[derive(Drop)]
+#[derive(Clone, Copy)]
 struct Key {
     text: [u8; 6],
     len: usize,
@@ -109,7 +109,7 @@ const KEYS: [Key; Key::COUNT] = [
 ];
 
 // What a line begins with: a key word, its length with the '=' and how many numbers follow; or no key word.
-#[derive(Drop)]
+#[derive(Clone, Copy)]
 pub(crate) enum Found {
     Key(Word, usize, u8),
     Nothing,
@@ -117,7 +117,7 @@ pub(crate) enum Found {
 
 // The table's entry i.
 fn key_at(i: usize) -> Key
-    requires* { do ⌜ i < (← ⟦Key::COUNT⟧) ⌝ }
+    requires { i < Key.COUNT }
     ensures { result ≡ entry (word_at i) }
 {
     KEYS[i]

@@ -1,4 +1,6 @@
 // Text: the card's decimals, key words and lines, read from bytes.
+#![tactic(auto)]
+
 mod decimal;
 mod keys;
 pub mod line;

@@ -8,13 +8,13 @@ use crate::decimal::{Natural, Whole, number_of, read_natural, read_whole};
 use crate::keys::{Found, Word, find_key, is_text};
 
 // A top value, or none.
-#[derive(Drop)]
+#[derive(Clone, Copy)]
 pub enum Cell {
     Value(i32),
     Unbound,
 }
 
-#[derive(Drop)]
+#[derive(Clone, Copy)]
 pub enum Op {
     Bind(u32, i32),
     Wind(u16, u16),
@@ -27,7 +27,7 @@ pub enum Op {
 }
 
 // A heading or an operation.
-#[derive(Drop)]
+#[derive(Clone, Copy)]
 pub enum Line {
     Vars(u32),
     Nodes(u32),
@@ -37,21 +37,21 @@ pub enum Line {
 }
 
 // What a text says as a line, or that it is no good line.
-#[derive(Drop)]
+#[derive(Clone, Copy)]
 enum Reading {
     Good(Line),
     Bad,
 }
 
 // The good line that a text begins with and how many bytes it takes, its LF counted; or that there is none.
-#[derive(Drop)]
+#[derive(Clone, Copy)]
 pub enum Next {
     Good(Line, usize),
     Bad,
 }
 
 // A number and a value with a comma between them.
-#[derive(Drop)]
+#[derive(Clone, Copy)]
 enum Bound {
     Both(u32, i32),
     Bad,
@@ -204,8 +204,7 @@ fn read_line(s: &[u8]) -> Reading
 
 // The good line that s begins with.
 pub fn next_line(s: &[u8]) -> Next
-    ensures finds { Finds (Leads s.now) (next_of result) }
-    ensures s_value { s.now ≡ s.now }
+    ensures { Finds (Leads s.now) (next_of result) }
 {
     let i = find_byte(s, b'\n');
     if s.len() <= i {
