@@ -2,17 +2,18 @@
 -- is the lowest that applies, as document 01 says of calls outside a walk. Assumes nothing.
 use Rattle.std.specs.Prelude.{◌≡◌, refl, false, List, ◌∷◌, ℕ}
 use Rattle.std.proofs.Common.{◌∙◌, inr}
-use Rattle.rules.specs.Basic.{clash}
+use Rattle.rules.proofs.Basic.{clash}
 use Rattle.rules.specs.Act.{Call}
 use Rattle.layout.specs.Limits.{none_n}
 use Rattle.layout.specs.Records.{target}
 use Rattle.layout.specs.Sound.{Sound}
 use Rattle.layout.specs.Becomes.{Kept}
-use Rattle.layout.specs.laws.WalkLaws.{kept_self}
+use Rattle.layout.proofs.WalkLaws.{kept_self}
 use Rattle.promises.specs.Answers.{Numbers}
 use Rattle.promises.specs.Tables.{Lowest}
 use Rattle.promises.specs.Promises.{damaged_row}
-use Rattle.promises.specs.Calls.{table, Done, Called, called, called_lowest, Code, is_done_lem, is_refused, code_of_lem, done_leaves}
+use Rattle.promises.specs.Calls.{table, Done, Called, Code, is_done_lem, is_refused}
+use Rattle.promises.proofs.Calls.{called, called_lowest, code_of_lem, done_leaves}
 use Rattle.text.specs.declared.line.Op.{Op}
 use Rattle.print.specs.declared.Report.{Report}
 use Rattle.card.specs.Running.{call_of, is_stride, no_stride, shown, Ran}

@@ -13,6 +13,7 @@ use Rattle.text.specs.Lines.{InRange}
 use Rattle.card.specs.Cards.{Whole, passed, stopped, Checked}
 use Rattle.card.specs.FirstBad.{first_bad}
 use Rattle.demands.specs.Cases as store
+use Rattle.demands.proofs.Cases as store_proved
 use Rattle.demands.specs.Cases.{Case, All}
 
 abbrev pub table : List Case
@@ -58,4 +59,4 @@ refuses =
     }
 
 pub cases : All table
-cases = (takes, (refuses, store.cases))
+cases = (takes, (refuses, store_proved.cases))

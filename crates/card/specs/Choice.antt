@@ -8,7 +8,7 @@ use Rattle.text.specs.Lines.{written}
 use Rattle.card.specs.declared.check.Verdict.{Verdict}
 use Rattle.card.specs.declared.check.Verdict.TheVariants.{Good, Bad}
 use Rattle.layout.specs.Bytes.{Bytes}
-use Rattle.demands.specs.NoChoice.{no_choice}
+use Rattle.demands.proofs.NoChoice.{no_choice}
 use Rattle.text.specs.declared.line.Op.{Op}
 use Rattle.text.specs.Decimal.{whole}
 use Rattle.promises.specs.Answers.{Numbers}

@@ -1,5 +1,5 @@
 -- Document 01's example is a good card, computed from the definitions. Assumes nothing.
-use Rattle.std.specs.Prelude.{◌≡◌, refl, [], ◌∷◌, pos, negsuc}
+use Rattle.std.specs.Prelude.{refl, [], ◌∷◌, pos, negsuc}
 use Rattle.std.proofs.Common.{arith}
 use Rattle.text.specs.declared.line.Cell.TheVariants.{Value}
 use Rattle.text.specs.declared.line.Op.TheVariants.{Bind, Wind, Look, Goto, Peek}

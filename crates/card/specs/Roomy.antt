@@ -2,17 +2,19 @@
 -- the room of the trace that it was lent. Assumes nothing.
 use Rattle.std.specs.Prelude.{◌≡◌, refl, false, List, [], ℕ, ◌*◌, ◌≤◌, length}
 use Rattle.std.proofs.Common.{ap, arith}
-use Rattle.rules.specs.Basic.{clash}
+use Rattle.rules.proofs.Basic.{clash}
 use Rattle.rules.specs.Moves.{Event}
 use Rattle.rules.specs.Act.{Call}
-use Rattle.rules.specs.Demands.{act_roomy}
+use Rattle.rules.proofs.Demands.{act_roomy}
 use Rattle.layout.specs.Limits.{event_size}
 use Rattle.promises.specs.declared.Answer.{Answer}
 use Rattle.promises.specs.Answers.{Numbers, numbers, flat}
 use Rattle.promises.specs.Promises.{world, room_for}
-use Rattle.promises.specs.Calls.{Promised, Called, called, Code, is_done_lem, is_refused, code_of_lem, done_sound}
+use Rattle.promises.specs.Calls.{Promised, Called, Code, is_done_lem, is_refused}
+use Rattle.promises.proofs.Calls.{called, code_of_lem, done_sound}
 use Rattle.demands.specs.Tests.{size_at, handed_by}
-use Rattle.demands.specs.AsAct.{acted, numbers_of, enters_in, thunk_in, as_act}
+use Rattle.demands.specs.AsAct.{acted, numbers_of, enters_in, thunk_in}
+use Rattle.demands.proofs.AsAct.{as_act}
 use Rattle.text.specs.declared.line.Op.{Op}
 use Rattle.print.specs.declared.Report.{Report}
 use Rattle.card.specs.Running.{call_of, is_stride, no_stride, Unhanded, shown, Ran, report_of, shows, plainly}

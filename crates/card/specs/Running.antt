@@ -9,11 +9,9 @@ use Prim.Native.Nat.{ℕ, zero, suc}
 use Rattle.rules.specs.Act.{Ask, Child, Goal, Call}
 use Rattle.rules.specs.Basic.{or_top}
 use Rattle.promises.specs.declared.Answer.{Answer}
-use Rattle.promises.specs.declared.Answer.TheVariants as Answer
 use Rattle.promises.specs.declared.Flat.{Flat}
 use Rattle.promises.specs.Answers.{Numbers, numbers, is_some, flat}
 use Rattle.text.specs.declared.line.Op.{Op}
-use Rattle.text.specs.declared.line.Op.TheVariants as Op
 use Rattle.print.specs.declared.Out.{Out}
 use Rattle.print.specs.declared.Out.TheVariants.{None, Number, Value}
 use Rattle.print.specs.declared.Report.{Report}

@@ -2,7 +2,7 @@
 use Rattle.std.specs.Prelude.{◌≡◌, refl, List, ℕ, length}
 use Rattle.layout.specs.Limits.{bare_size}
 use Rattle.layout.specs.Records.{blank_cell, value_c}
-use Rattle.layout.specs.laws.RecordLaws.{value_length}
+use Rattle.layout.proofs.RecordLaws.{value_length}
 use Rattle.text.specs.declared.line.Cell.{Cell}
 use Rattle.text.specs.declared.line.Cell.TheVariants.{Value, Unbound}
 

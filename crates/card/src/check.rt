@@ -9,7 +9,7 @@ use text::Card;
 use text::line::{Line, Next, next_line};
 
 // Bad has the first bad line, counted from 1; 0 where the card is too long.
-#[derive(Drop)]
+#[derive(Clone, Copy)]
 pub enum Verdict {
     Good,
     Bad(u32),
@@ -41,8 +41,7 @@ fn ops_from(line: Line, ops: u32) -> u32
 
 // Whether the card is good, and otherwise which line is its first bad one.
 pub fn check(card: &[u8]) -> Verdict
-    ensures checked { Checked card.now (ruling result) }
-    ensures card_value { card.now ≡ card.now }
+    ensures { Checked card.now (ruling result) }
 {
     if Card::BYTES < card.len() {
         return Verdict::Bad(0);

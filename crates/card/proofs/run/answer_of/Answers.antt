@@ -1,16 +1,14 @@
 -- `answer_of`: none beside a number that is not 0, else by whether there is a decider. Assumes nothing.
-use mathlib.Core.Path.{◌≡◌, refl, sym}
+use mathlib.Core.Path.{◌≡◌, refl}
 use mathlib.Core.Logic.{◌≢◌}
 use mathlib.Core.Bool.{Bool, true, false}
 use Prim.Native.Nat.{ℕ, zero, suc}
 use lib.IntN.{ℤ}
 use mir.Syntax.{w32}
 use mir.ValLaws.{to_z-of_z}
-use borrow.Author.Rules.{rules}
 use Rattle.print.specs.declared.Out.TheVariants.{None, Number, Value}
 use Rattle.card.specs.Running.{out_by}
-use Rattle.card.proofs.run.answer_of.Statement.{statement}
-use Rattle.card.proofs.run.answer_of.Tie as tie
+use Rattle.card.proofs.run.answer_of.Goals as goal
 
 refused : (k : ℕ) (d : Bool) (v : ℤ) (by : ℕ) → k ≢ 0 → None ≡ out_by k d v by
 unfolding out_by
@@ -25,21 +23,13 @@ numbered : (k : ℕ) (d : Bool) (v : ℤ) (by : ℕ) → k ≡ 0 → d ≡ false
 unfolding out_by
 numbered k d v by e f = rw (e, f)
 
-returns : tie.Need-returns
-returns c = refused _ _ _ _ c.if1.true
+pub returns-then-n-ne0 : goal.returns-then-n-ne0
+returns-then-n-ne0 c = refused _ _ _ _ c.if-n-ne0.true
 
-cast-t3 : tie.Need-overflow-cast-t3
-cast-t3 c = search rules
+pub returns-then-n : goal.returns-then-n
+returns-then-n c =
+    rw (to_z-of_z w32 c.args.n.out (record { sfits = c.struct_told-1.given.0.1 })) (valued _ _ _ _ c.if-n-ne0.false c.if-n.true)
 
-returns-2 : tie.Need-returns-2
-returns-2 c =
-    let test = c.before.before in
-    rw (to_z-of_z w32 test.before.before.before.args.n.out (record { sfits = c.struct_told.given.0.1 })) (valued _ _ _ _ test.before.if1.false test.if2.true)
-
-returns-3 : tie.Need-returns-3
-returns-3 c =
-    let test = c.before in
-    rw (to_z-of_z w32 test.before.before.before.args.n.out (record { sfits = c.struct-told2.given.0.1 })) (numbered _ _ _ _ test.before.if1.false test.if2.false)
-
-pub answer-of-spec : {M : Type 1} → statement M
-answer-of-spec = tie.close (tie.spec returns cast-t3 returns-2 returns-3)
+pub returns : goal.returns
+returns c =
+    rw (to_z-of_z w32 c.args.n.out (record { sfits = c.struct_told-2-1.given.0.1 })) (numbered _ _ _ _ c.if-n-ne0.false c.if-n.false)
