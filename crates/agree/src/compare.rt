@@ -2,6 +2,7 @@
 // each environment is.
 use crate::buffer::{byte, plus};
 use crate::model::{COUNTED, MADE, SPACE, Says, VARS};
+use crate::say::Loud;
 use crate::{ask, draw, image, model, say};
 
 // What a step found: 0 where all agrees.
@@ -87,7 +88,7 @@ fn count_answer(m: &mut [usize; SPACE], a: Says) {
 
 // ---- answers and bytes
 
-pub(crate) fn answers(loud: bool, want: Says, got: Says, m: &mut [usize; SPACE]) -> usize {
+pub(crate) fn answers(loud: Loud, want: Says, got: Says, m: &mut [usize; SPACE]) -> usize {
     count_answer(m, want);
     if ask::agree(want, got) {
         return 0;
@@ -97,7 +98,7 @@ pub(crate) fn answers(loud: bool, want: Says, got: Says, m: &mut [usize; SPACE])
 }
 
 // Whether the store's bytes, and those lent after it, are what the model has them to be.
-pub(crate) fn bytes_agree(loud: bool, s: &[u8], m: &mut [usize; SPACE]) -> usize {
+pub(crate) fn bytes_agree(loud: Loud, s: &[u8], m: &mut [usize; SPACE]) -> usize {
     image::mark(m);
     let at = image::differ_at(s, m, s.len());
     if at == s.len() {
@@ -114,7 +115,7 @@ pub(crate) const SOME: usize = 20;
 
 pub(crate) const MANY: usize = 400;
 
-fn value_agrees(loud: bool, s: &[u8], m: &[usize; SPACE], a: usize, x: usize) -> bool {
+fn value_agrees(loud: Loud, s: &[u8], m: &[usize; SPACE], a: usize, x: usize) -> bool {
     let want = model::peek(m, a, x);
     let got = ask::store_reads(b'p', a, x, s);
     if ask::agree(want, got) {
@@ -126,7 +127,7 @@ fn value_agrees(loud: bool, s: &[u8], m: &[usize; SPACE], a: usize, x: usize) ->
 }
 
 // What is told of the environment a, or that it is not made.
-fn told_agrees(loud: bool, s: &[u8], m: &[usize; SPACE], a: usize) -> bool {
+fn told_agrees(loud: Loud, s: &[u8], m: &[usize; SPACE], a: usize) -> bool {
     let want = model::tell_one(m, a);
     let got = ask::store_tell(s, a);
     if ask::agree(want, got) {
@@ -137,7 +138,7 @@ fn told_agrees(loud: bool, s: &[u8], m: &[usize; SPACE], a: usize) -> bool {
     false
 }
 
-fn row_agrees(loud: bool, s: &[u8], m: &[usize; SPACE], a: usize) -> bool {
+fn row_agrees(loud: Loud, s: &[u8], m: &[usize; SPACE], a: usize) -> bool {
     let end = model::head(m, VARS);
     let mut x = 0;
     while x < end {
@@ -149,15 +150,15 @@ fn row_agrees(loud: bool, s: &[u8], m: &[usize; SPACE], a: usize) -> bool {
     true
 }
 
-fn place_agrees(loud: bool, s: &[u8], m: &[usize; SPACE], a: usize) -> bool {
+fn place_agrees(loud: Loud, s: &[u8], m: &[usize; SPACE], a: usize) -> bool {
     told_agrees(loud, s, m, a) && row_agrees(loud, s, m, a)
 }
 
-fn spot_agrees(loud: bool, s: &[u8], m: &[usize; SPACE], a: usize, x: usize) -> bool {
+fn spot_agrees(loud: Loud, s: &[u8], m: &[usize; SPACE], a: usize, x: usize) -> bool {
     told_agrees(loud, s, m, a) && value_agrees(loud, s, m, a, x)
 }
 
-fn all_agree(loud: bool, s: &[u8], m: &[usize; SPACE]) -> bool {
+fn all_agree(loud: Loud, s: &[u8], m: &[usize; SPACE]) -> bool {
     let end = model::head(m, MADE);
     let mut a = 0;
     while a < end {
@@ -169,7 +170,7 @@ fn all_agree(loud: bool, s: &[u8], m: &[usize; SPACE]) -> bool {
     true
 }
 
-fn spots_agree(loud: bool, s: &[u8], m: &[usize; SPACE], seed: usize, spots: usize) -> bool {
+fn spots_agree(loud: Loud, s: &[u8], m: &[usize; SPACE], seed: usize, spots: usize) -> bool {
     let mut g = seed;
     let mut i = 0;
     while i < spots {
@@ -202,7 +203,7 @@ fn how_many(m: &[usize; SPACE], spots: usize) -> usize {
     if all <= FEW { all } else { spots }
 }
 
-fn values_same(loud: bool, g: usize, spots: usize, s: &[u8], m: &[usize; SPACE]) -> bool {
+fn values_same(loud: Loud, g: usize, spots: usize, s: &[u8], m: &[usize; SPACE]) -> bool {
     if all_values(m) <= FEW {
         all_agree(loud, s, m)
     } else {
@@ -222,7 +223,7 @@ fn how_many_told(m: &[usize; SPACE], spots: usize) -> usize {
 
 // The values of all variables in all environments, and what each is; where there are too many, at some drawn places.
 pub(crate) fn values_agree(
-    loud: bool,
+    loud: Loud,
     g: usize,
     spots: usize,
     s: &[u8],

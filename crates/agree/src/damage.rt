@@ -3,6 +3,7 @@ use crate::buffer::{copy, fill, holds, number16, plus, spell16};
 use crate::compare::{BROKEN, FIELDS, REFUSAL, SIZES, SOME, count, values_agree};
 use crate::draw::Op;
 use crate::model::{FOCUS, LARGEST, LENT, MADE, SPACE, TARGET, UNBOUND, VARS};
+use crate::say::Loud;
 use crate::{ask, draw, image, model, say, walk};
 use layout::Store;
 
@@ -63,7 +64,7 @@ fn broken(g: usize, at: usize, old: usize, s: &mut [u8], m: &mut [usize; SPACE])
 }
 
 // A store that is still sound: the model goes on with what it now means.
-fn changed(loud: bool, g: usize, s: &[u8], m: &mut [usize; SPACE]) -> usize {
+fn changed(loud: Loud, g: usize, s: &[u8], m: &mut [usize; SPACE]) -> usize {
     image::keep(LENT, s, m);
     values_agree(loud, g, SOME, s, m)
 }
@@ -74,7 +75,7 @@ fn struck(b: usize, n: usize) -> usize {
 }
 
 // Where a number becomes another, which, and where it is counted: there where the store is damaged, and after it where not.
-#[derive(Drop)]
+#[derive(Clone, Copy)]
 pub(crate) struct Blow {
     pub at: usize,
     pub new: usize,
@@ -82,7 +83,7 @@ pub(crate) struct Blow {
 }
 
 // In bytes that agree.
-pub(crate) fn strike(loud: bool, g: usize, b: Blow, s: &mut [u8], m: &mut [usize; SPACE]) -> usize {
+pub(crate) fn strike(loud: Loud, g: usize, b: Blow, s: &mut [u8], m: &mut [usize; SPACE]) -> usize {
     let at = b.at;
     let i = b.counted;
     let old = number16(s, at);
@@ -148,7 +149,7 @@ pub(crate) fn some_blow(g: usize, s: &[u8], m: &[usize; SPACE]) -> Blow {
 // ---- a cell that loses its value
 
 // A cell: where its state is, and where its bits.
-#[derive(Drop)]
+#[derive(Clone, Copy)]
 struct Spot {
     state: usize,
     bits: usize,
@@ -173,7 +174,7 @@ fn some_cell(g: usize, m: &[usize; SPACE]) -> Spot {
 }
 
 // One cell emptied, of bytes that agree. The store stays sound.
-pub(crate) fn hollow(loud: bool, g: usize, s: &mut [u8], m: &mut [usize; SPACE]) -> usize {
+pub(crate) fn hollow(loud: Loud, g: usize, s: &mut [u8], m: &mut [usize; SPACE]) -> usize {
     let c = some_cell(g, m);
     say::line(loud, say::HOLLOW, c.state, 0, 0);
     image::put_cell(s, c.state, c.bits, UNBOUND);

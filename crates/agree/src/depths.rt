@@ -3,6 +3,7 @@ use crate::buffer::{less, number16, plus, spell16};
 use crate::compare::{BLANK_DEPTH, NODE_DEPTH, SHIFTED, TOP_DEPTH, count};
 use crate::damage::{all_refuse, verdict};
 use crate::model::{DEPTH, FOCUS, MADE, ROOM, SPACE, VARS, head, of};
+use crate::say::Loud;
 use crate::{draw, image, say};
 
 // Ways to be false: a node in five ways, then the top, a blank and all.
@@ -12,7 +13,7 @@ pub(crate) const WAYS: usize = 8;
 const FOCUS_AT: usize = 6;
 
 // The nodes from one on, before another, are this much deeper (65,535: one less), with this focus; and where it is counted.
-#[derive(Drop)]
+#[derive(Clone, Copy)]
 struct Fault {
     from: usize,
     end: usize,
@@ -88,7 +89,7 @@ fn refused(g: usize, f: usize, s: &mut [u8], m: &mut [usize; SPACE]) -> bool {
 
 // Depths false in this way, in bytes that agree, are refused; then they are right again.
 pub(crate) fn false_depths(
-    loud: bool,
+    loud: Loud,
     g: usize,
     way: usize,
     s: &mut [u8],

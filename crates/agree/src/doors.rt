@@ -5,6 +5,7 @@ use crate::buffer::{copy, holds, plus};
 use crate::compare::{DOORS, PAIRS, PUT_IN, bytes_agree, count};
 use crate::draw::{Op, made_op};
 use crate::model::{FOCUS, MADE, SPACE, Says, head};
+use crate::say::Loud;
 use crate::{ask, draw, say, walk};
 use layout::Store;
 
@@ -22,7 +23,7 @@ pub(crate) fn begin(s: &[u8], u: &mut [u8]) -> usize {
 }
 
 // A jump in the second run: 1 where it is answered, else 0.
-fn jump(loud: bool, o: Op, u: &mut [u8]) -> usize {
+fn jump(loud: Loud, o: Op, u: &mut [u8]) -> usize {
     let r = second(o, u);
     if r.code != 0 {
         return 0;
@@ -40,7 +41,7 @@ fn drawn(g: usize, made: usize) -> Op {
 }
 
 // Up to four drawn jumps: how many were answered.
-fn jumps(loud: bool, seed: usize, made: usize, u: &mut [u8]) -> usize {
+fn jumps(loud: Loud, seed: usize, made: usize, u: &mut [u8]) -> usize {
     let end = draw::draw(seed, 5);
     let mut g = seed;
     let mut n = 0;
@@ -65,12 +66,12 @@ fn both(o: Op, walking: bool) -> bool {
 }
 
 // To where the first run has its focus.
-fn home(loud: bool, u: &mut [u8], m: &[usize; SPACE]) -> usize {
+fn home(loud: Loud, u: &mut [u8], m: &[usize; SPACE]) -> usize {
     jump(loud, made_op(b'g', head(m, FOCUS), 0), u)
 }
 
 // Before the first run makes the operation: jumps, then home, then the operation.
-pub(crate) fn go_round(loud: bool, g: usize, o: Op, u: &mut [u8], m: &mut [usize; SPACE]) -> usize {
+pub(crate) fn go_round(loud: Loud, g: usize, o: Op, u: &mut [u8], m: &mut [usize; SPACE]) -> usize {
     if !both(o, walk::walking(m)) {
         return 0;
     }
@@ -82,7 +83,7 @@ pub(crate) fn go_round(loud: bool, g: usize, o: Op, u: &mut [u8], m: &mut [usize
 }
 
 // Whether the two runs have the same bytes, those lent after the store too, where the first is in no walk.
-pub(crate) fn pair_agrees(loud: bool, s: &[u8], u: &mut [u8], m: &mut [usize; SPACE]) -> usize {
+pub(crate) fn pair_agrees(loud: Loud, s: &[u8], u: &mut [u8], m: &mut [usize; SPACE]) -> usize {
     if walk::walking(m) {
         return 0;
     }

@@ -88,7 +88,7 @@ pub(crate) fn what(kind: usize, g: usize, m: &[usize; SPACE]) -> u8 {
 }
 
 // A sequence: its kind, the store's V and N, how many operations, how many bytes are lent after the store.
-#[derive(Drop)]
+#[derive(Clone, Copy)]
 pub(crate) struct Plan {
     pub kind: usize,
     pub vars: usize,
@@ -165,7 +165,7 @@ pub(crate) fn planned(seed: usize) -> Plan {
 // ---- operations
 
 // An operation: its letter, its numbers in the order of a card, and the bytes of trace lent to it.
-#[derive(Drop)]
+#[derive(Clone, Copy)]
 pub(crate) struct Op {
     pub what: u8,
     pub one: usize,
@@ -340,7 +340,7 @@ fn tops_len(g: usize, v: usize) -> usize {
 }
 
 // An opening: V, N and the bytes of top cells; how these are drawn, and whether a byte of them may be another.
-#[derive(Drop)]
+#[derive(Clone, Copy)]
 pub(crate) struct Opening {
     pub vars: usize,
     pub nodes: usize,

@@ -75,7 +75,7 @@ pub(crate) const NO_ONE: usize = 65_536;
 
 // What a call answers: its number, the answer, moves and events, of a value the decider, and of a step its event: 0 leaving or 1
 // entering, and the thunk.
-#[derive(Drop)]
+#[derive(Clone, Copy)]
 pub(crate) struct Says {
     pub code: usize,
     pub out: usize,
@@ -177,7 +177,7 @@ pub(crate) fn up(m: &[usize; SPACE], n: usize) -> usize
 }
 
 // An environment other than the top.
-#[derive(Drop)]
+#[derive(Clone, Copy)]
 pub(crate) struct Node {
     pub kind: usize,
     pub parent: usize,
@@ -305,14 +305,14 @@ fn tell(m: &[usize; SPACE], n: usize, way: usize, notes: &mut [u8], e: usize) ->
 }
 
 // How many nodes a switch leaves, and how many moves it makes.
-#[derive(Drop)]
+#[derive(Clone, Copy)]
 pub(crate) struct Route {
     pub left: usize,
     pub moves: usize,
 }
 
 // A node, and whether it is left (way 0) or entered (way 1).
-#[derive(Drop)]
+#[derive(Clone, Copy)]
 pub(crate) struct Move {
     pub node: usize,
     pub way: usize,

@@ -3,6 +3,7 @@ use crate::buffer::{plus, spell16};
 use crate::compare::{OWN_HIGH, OWN_LOW, REFUSAL, count};
 use crate::damage::all_refuse;
 use crate::model::{MADE, SPACE, VARS};
+use crate::say::Loud;
 use crate::{draw, image, model, say};
 
 // Ways to choose the node: up to 255 off the path and then on it, above 255 off the path and then on it.
@@ -55,7 +56,7 @@ fn counted_at(n: usize) -> usize {
 
 // A node chosen in this way is its own parent: every call refuses. What is in was marked.
 pub(crate) fn own_parent(
-    loud: bool,
+    loud: Loud,
     g: usize,
     way: usize,
     s: &mut [u8],

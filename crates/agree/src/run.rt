@@ -7,6 +7,7 @@ use crate::compare::{
 };
 use crate::draw::{Op, Opening, Plan};
 use crate::model::{LARGEST, LENT, MADE, SPACE, Says};
+use crate::say::Loud;
 use crate::{ask, beside, damage, depths, doors, draw, image, model, parents, say, walk};
 use layout::Store;
 
@@ -25,7 +26,7 @@ fn told(o: Op, r: Says) -> usize {
 
 // What differs: the answers, the trace, which is not held, or the walk from goto.
 fn differs(
-    loud: bool,
+    loud: Loud,
     o: Op,
     want: Says,
     got: Says,
@@ -44,7 +45,7 @@ fn differs(
 }
 
 // The operation with the trace t.
-fn traced(loud: bool, o: Op, s: &mut [u8], m: &mut [usize; SPACE], t: &mut [u8]) -> usize {
+fn traced(loud: Loud, o: Op, s: &mut [u8], m: &mut [usize; SPACE], t: &mut [u8]) -> usize {
     let mut notes = [0u8; Store::EVENT * Store::NODES];
     fill(t);
     let want = ask::of_model(o, m, &mut notes);
@@ -81,7 +82,7 @@ fn counted_at(o: Op, m: &[usize; SPACE]) -> usize {
 // Most bytes of trace that are lent.
 const LONGEST: usize = Store::EVENT * Store::NODES + 32;
 
-fn operate(loud: bool, o: Op, s: &mut [u8], m: &mut [usize; SPACE]) -> usize {
+fn operate(loud: Loud, o: Op, s: &mut [u8], m: &mut [usize; SPACE]) -> usize {
     let mut t = [0u8; LONGEST];
     let len = o.trace;
     let i = counted_at(o, m);
@@ -100,7 +101,7 @@ fn operate(loud: bool, o: Op, s: &mut [u8], m: &mut [usize; SPACE]) -> usize {
 const TOPS: usize = Store::BARE * Store::VARS + 64;
 
 // Open. The bytes of s are what is lent.
-fn open(loud: bool, o: Opening, s: &mut [u8], m: &mut [usize; SPACE]) -> usize {
+fn open(loud: Loud, o: Opening, s: &mut [u8], m: &mut [usize; SPACE]) -> usize {
     let mut tops = [0u8; TOPS];
     let len = o.len;
     say::line(loud, say::OPEN, o.vars, o.nodes, len);
@@ -133,14 +134,14 @@ fn here_of(m: &[usize; SPACE], len: usize) -> Says {
 }
 
 // The store lent with its first bytes alone.
-fn cut(loud: bool, g: usize, s: &[u8], m: &mut [usize; SPACE]) -> usize {
+fn cut(loud: Loud, g: usize, s: &[u8], m: &mut [usize; SPACE]) -> usize {
     let len = draw::cut_len(g, model::size(m));
     say::line(loud, say::CUT, len, 0, 0);
     let want = here_of(m, len);
     answers(loud, want, here_in(s, len), m)
 }
 
-fn step(loud: bool, kind: usize, g: usize, s: &mut [u8], m: &mut [usize; SPACE]) -> usize {
+fn step(loud: Loud, kind: usize, g: usize, s: &mut [u8], m: &mut [usize; SPACE]) -> usize {
     let o = draw::operation(kind, g, m);
     let what = o.what;
     match what {
@@ -207,7 +208,7 @@ fn spots(p: Plan, k: usize) -> usize {
 }
 
 fn act(
-    loud: bool,
+    loud: Loud,
     p: Plan,
     k: usize,
     g: usize,
@@ -240,7 +241,7 @@ fn drawn(g: usize, k: usize) -> usize {
 }
 
 fn all_parts(
-    loud: bool,
+    loud: Loud,
     p: Plan,
     seed: usize,
     s: &mut [u8],
@@ -263,7 +264,7 @@ fn all_parts(
 
 // The sequence in s, and its second run in u.
 fn played(
-    loud: bool,
+    loud: Loud,
     p: Plan,
     seed: usize,
     s: &mut [u8],
@@ -280,7 +281,7 @@ fn played(
 }
 
 // The sequence of this seed.
-pub(crate) fn sequence(loud: bool, seed: usize, m: &mut [usize; SPACE]) -> usize {
+pub(crate) fn sequence(loud: Loud, seed: usize, m: &mut [usize; SPACE]) -> usize {
     let mut s = [0u8; LARGEST];
     let mut u = [0u8; LARGEST];
     let p = draw::planned(seed);

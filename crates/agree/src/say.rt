@@ -1,7 +1,14 @@
 // What the program writes: counts, and at a disagreement the sequence, an operation to a line as a card has it.
 use crate::draw::{Op, Plan};
 use crate::model::{NO_ONE, Says};
-use libc::STDOUT_FILENO;
+use std::io::{Stdout, Write};
+
+// Where all is written, and whether what a sequence does is written too.
+#[derive(Clone, Copy)]
+pub(crate) struct Loud {
+    pub out: Stdout,
+    pub on: bool,
+}
 
 // Each row ends in a dot. A, B and C stand for three numbers, V for B as the bits of a value, and / ends a line. There is a row
 // for each count by its number, then for the kinds of sequences, for what is found, for the operations, and the rows below.
@@ -134,72 +141,72 @@ pub(crate) const JUMP: usize = 84;
 
 pub(crate) const TOLD: usize = 85;
 
-fn number(n: usize) {
-    io::print_decimal(STDOUT_FILENO, n as u64);
+fn number(mut out: Stdout, n: usize) {
+    let _ = write!(out, "{n}");
 }
 
-fn sign(c: u8) {
+fn sign(mut out: Stdout, c: u8) {
     let t = [c];
-    io::write_all(STDOUT_FILENO, &t);
+    let _ = out.write_all(&t);
 }
 
 // The value with these bits.
-fn value(bits: usize) {
+fn value(out: Stdout, bits: usize) {
     if bits < 2_147_483_648 {
-        number(bits);
+        number(out, bits);
     } else {
-        sign(b'-');
-        number(std::num::wrapping_sub_usize(4_294_967_296, bits));
+        sign(out, b'-');
+        number(out, std::num::wrapping_sub_usize(4_294_967_296, bits));
     }
 }
 
 // What a sign of a row stands for.
-fn shown(c: u8, a: usize, b: usize, d: usize) {
+fn shown(out: Stdout, c: u8, a: usize, b: usize, d: usize) {
     match c {
-        b'A' => number(a),
-        b'B' => number(b),
-        b'C' => number(d),
-        b'V' => value(b),
-        b'/' => sign(10),
-        _ => sign(c),
+        b'A' => number(out, a),
+        b'B' => number(out, b),
+        b'C' => number(out, d),
+        b'V' => value(out, b),
+        b'/' => sign(out, 10),
+        _ => sign(out, c),
     }
 }
 
 // The sign at i, in row k, is shown if that is the row asked for; the next sign's row.
-fn passed(k: usize, i: usize, row: usize, a: usize, b: usize, d: usize) -> usize {
+fn passed(out: Stdout, k: usize, i: usize, row: usize, a: usize, b: usize, d: usize) -> usize {
     let c = ROWS[i % TEXT];
     if c == b'.' {
         return std::num::wrapping_add_usize(k, 1);
     }
     if k == row {
-        shown(c, a, b, d);
+        shown(out, c, a, b, d);
     }
     k
 }
 
 // A row with its numbers.
-pub(crate) fn row(row: usize, a: usize, b: usize, d: usize) {
+pub(crate) fn row(out: Stdout, row: usize, a: usize, b: usize, d: usize) {
     let mut k = 0;
     let mut i = 0;
     while i < TEXT {
-        k = passed(k, i, row, a, b, d);
+        k = passed(out, k, i, row, a, b, d);
         i += 1;
     }
 }
 
 // A row of a sequence that is written.
-pub(crate) fn line(loud: bool, which: usize, a: usize, b: usize, d: usize) {
-    if loud {
-        row(which, a, b, d);
+pub(crate) fn line(loud: Loud, which: usize, a: usize, b: usize, d: usize) {
+    if loud.on {
+        row(loud.out, which, a, b, d);
     }
 }
 
 // What kind of disagreement was found.
-pub(crate) fn found(kind: usize) {
-    row(FOUND + kind % 9, 0, 0, 0);
+pub(crate) fn found(out: Stdout, kind: usize) {
+    row(out, FOUND + kind % 9, 0, 0, 0);
 }
 
-pub(crate) fn plan(loud: bool, seed: usize, p: Plan) {
+pub(crate) fn plan(loud: Loud, seed: usize, p: Plan) {
     line(loud, SEED, seed, 0, 0);
     line(loud, KINDS + p.kind % 10, 0, 0, 0);
     line(loud, PLAN, p.slack, p.vars, p.nodes);
@@ -222,18 +229,18 @@ fn which(what: u8) -> usize {
     }
 }
 
-pub(crate) fn operation(loud: bool, o: Op) {
+pub(crate) fn operation(loud: Loud, o: Op) {
     line(loud, OPERATIONS + which(o.what) % 12, o.one, o.two, o.trace);
 }
 
-fn answer(loud: bool, who: usize, a: Says) {
+fn answer(loud: Loud, who: usize, a: Says) {
     let seen = if a.by == NO_ONE { UNSEEN } else { SEEN };
     line(loud, who, a.code, a.out, 0);
     line(loud, seen, a.moves, a.events, a.by);
     line(loud, HANDS, a.event, a.thunk, 0);
 }
 
-pub(crate) fn answers(loud: bool, want: Says, got: Says) {
+pub(crate) fn answers(loud: Loud, want: Says, got: Says) {
     answer(loud, MODEL, want);
     answer(loud, STORE, got);
 }

@@ -13,12 +13,11 @@ use Rattle.text.specs.declared.line.Line.{Line}
 use Rattle.text.specs.declared.line.Line.TheVariants.{Vars, Nodes, Room, Top, Do}
 use Rattle.text.specs.Every.{All}
 use Rattle.text.specs.Lines.{InRange}
-use Rattle.card.specs.Cards.{Whole, Made, Passes, text}
+use Rattle.card.specs.Cards.{Whole, Passes, text}
 use Rattle.play.specs.declared.reading.Heads.{Heads}
 use Rattle.play.specs.declared.reading.Headed.{Headed}
-use Rattle.play.specs.declared.reading.Headed.TheVariants as Headed
 use Rattle.play.specs.declared.progress.Progress.{Progress}
-use Rattle.play.specs.Output.{tops_b, events_text, Runs, stay, Begins}
+use Rattle.play.specs.Output.{tops_b, Runs, stay, Begins}
 use Rattle.play.specs.Steps.{Ahead, Reads, SoFar, Ready, Begun}
 use Rattle.play.proofs.Running.{events_none}
 

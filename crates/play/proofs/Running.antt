@@ -1,7 +1,7 @@
 -- The run of a card goes on by a line: an event's, or the next operation's. Assumes nothing.
 use mathlib.Core.Path.{◌≡◌, refl, sym, ap, subst, ◌∙◌}
 use mathlib.Core.List.{List, [], ◌∷◌, ◌++◌, map, append_assoc, append-nil}
-use Prim.Native.Nat.{ℕ, zero, suc, ◌+◌, ◌-◌, ◌*◌, ◌≤◌, ◌<◌}
+use Prim.Native.Nat.{ℕ, zero, suc, ◌+◌, ◌-◌, ◌*◌, ◌<◌}
 use native.Mathlib.Omega.{arith}
 use lib.ListN.{length, drop}
 use Rattle.layout.specs.Limits.{event_size}
@@ -11,7 +11,6 @@ use Rattle.text.specs.declared.line.Op.{Op}
 use Rattle.text.specs.declared.line.Line.{Line}
 use Rattle.text.specs.declared.line.Line.TheVariants.{Do}
 use Rattle.text.specs.declared.line.Next.{Next}
-use Rattle.text.specs.declared.line.Next.TheVariants as Next
 use Rattle.text.specs.Finds.{Finds}
 use Rattle.text.specs.Lines.{Leads, next_of}
 use Rattle.print.specs.declared.Report.{Report}

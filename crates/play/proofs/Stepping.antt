@@ -3,7 +3,7 @@ use mathlib.Core.Path.{◌≡◌, refl, sym, ap, subst, ◌∙◌}
 use mathlib.Core.Logic.{◌⊎◌, inl, inr, ⊎_elim}
 use mathlib.Core.Bool.{Bool, false}
 use mathlib.Core.List.{List, [], ◌∷◌, ◌++◌, map, append_assoc, append-nil}
-use Prim.Native.Nat.{ℕ, zero, suc, ◌+◌, ◌-◌, ◌*◌, ◌≤◌, ◌<◌}
+use Prim.Native.Nat.{ℕ, ◌+◌, ◌*◌, ◌≤◌, ◌<◌}
 use native.Mathlib.Omega.{arith}
 use native.Mathlib.Decide.{dec_le}
 use lib.ListN.{length, take, drop, length-append, length-drop}
@@ -15,7 +15,6 @@ use Rattle.text.specs.declared.line.Op.{Op}
 use Rattle.text.specs.declared.line.Line.{Line}
 use Rattle.text.specs.declared.line.Line.TheVariants.{Do}
 use Rattle.text.specs.declared.line.Next.{Next}
-use Rattle.text.specs.declared.line.Next.TheVariants as Next
 use Rattle.text.specs.Finds.{Finds, Tells}
 use Rattle.text.specs.Lines.{written, Leads, next_of}
 use Rattle.print.specs.declared.Report.{Report}
@@ -24,7 +23,6 @@ use Rattle.print.specs.Writing.{Wrote}
 use Rattle.card.specs.Cards.{StopsAt, text}
 use Rattle.card.specs.Running.{Ran}
 use Rattle.play.specs.declared.Handed.{Handed}
-use Rattle.play.specs.declared.Handed.TheVariants as Handed
 use Rattle.play.specs.declared.progress.Progress.{Progress}
 use Rattle.play.specs.Output.{event_text, events_text, Runs, Prints, bad, good, Leaves, finished, leaves_prints, Stands}
 use Rattle.play.specs.Steps.{page_bytes, Ahead, SoFar, Ended, Ready, to_go, Told, Puts, Fills, HandedOn, AllOf, most_bytes, AllLeft}
@@ -220,8 +218,8 @@ handed_to_lem {n} {m} {r} e h = rw e at h
 
 pub handed_all : {card x s : List ℕ} {n : ℕ} (r : Handed) → HandedOn n r → n ≡ length x → n ≤ longest → Leaves card x s → AllLeft card s r
 handed_all {card} {x} {s} {n} (Handed.To m) h e f p = (x, p, h ∙ e, omega (arith, h, f))
-handed_all {card} {x} {s} {n} Handed.Lost h e f p = tt
+handed_all {card} {x} {s} {n} (Handed.Lost error) h e f p = tt
 
 pub left_all : (card s : List ℕ) (r : Handed) → AllLeft card s r → AllOf card r
 left_all card s (Handed.To m) h = (h.0, leaves_prints h.1, h.2)
-left_all card s Handed.Lost h = tt
+left_all card s (Handed.Lost error) h = tt

@@ -10,7 +10,6 @@ use Rattle.text.specs.declared.line.Cell.{Cell}
 use Rattle.text.specs.declared.line.Line.{Line}
 use Rattle.text.specs.declared.line.Line.TheVariants.{Top}
 use Rattle.text.specs.declared.line.Next.{Next}
-use Rattle.text.specs.declared.line.Next.TheVariants as Next
 use Rattle.text.specs.Finds.{Finds}
 use Rattle.text.specs.Lines.{Leads, next_of}
 use Rattle.print.specs.Writing.{Wrote}

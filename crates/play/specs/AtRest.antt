@@ -5,14 +5,16 @@ use Rattle.std.proofs.Common.{sym, ap, subst, ◌∙◌, inl, inr, arith, length
 use Rattle.std.proofs.Math.Option.{none}
 use Rattle.std.proofs.Math.Decide.{ℕ_discrete}
 use Rattle.layout.specs.Limits.{none_n, bare_size}
-use Rattle.layout.specs.Bytes.{part, part_right}
+use Rattle.layout.specs.Bytes.{part}
+use Rattle.layout.proofs.Bytes.{part_right}
 use Rattle.layout.specs.Records.{target, value_c, bare_c, top_c, ProperCell}
 use Rattle.layout.specs.Fields.{fields_of}
 use Rattle.layout.specs.View.{walk_of}
-use Rattle.layout.specs.laws.StrideLaws.{with_target_lem}
+use Rattle.layout.proofs.StrideLaws.{with_target_lem}
 use Rattle.promises.specs.Tables.{Lowest}
 use Rattle.promises.specs.Promises.{damaged_row, Openable, Opened}
-use Rattle.promises.specs.Calls.{table, opens}
+use Rattle.promises.specs.Calls.{table}
+use Rattle.promises.proofs.Calls.{opens}
 use Rattle.text.specs.declared.line.Cell.{Cell}
 use Rattle.text.specs.declared.line.Cell.TheVariants.{Value, Unbound}
 use Rattle.text.specs.declared.line.Op.{Op}

@@ -1,12 +1,11 @@
 -- What operations print leaves no choice: from one store and one trace they print one text. Assumes nothing.
 use Rattle.std.specs.Prelude.{◌≡◌, refl, List, [], ◌∷◌, ◌++◌, ℕ, ◌+◌}
-use Rattle.std.proofs.Common.{ap, subst, ◌∙◌}
+use Rattle.std.proofs.Common.{ap}
 use Rattle.layout.specs.Bytes.{Bytes}
 use Rattle.promises.specs.Answers.{Numbers}
-use Rattle.demands.specs.NoChoice.{no_choice}
+use Rattle.demands.proofs.NoChoice.{no_choice}
 use Rattle.text.specs.declared.line.Op.{Op}
 use Rattle.print.specs.declared.Report.{Report}
-use Rattle.print.specs.Printed.{op_line}
 use Rattle.card.specs.Running.{call_of, shown, Ran}
 use Rattle.card.specs.Choice.{ran_one}
 use Rattle.play.specs.Output.{events_text, op_text, Runs, stay, step}

@@ -11,7 +11,7 @@ use Rattle.text.specs.declared.line.Cell.{Cell}
 use Rattle.text.specs.declared.line.Op.{Op}
 use Rattle.print.specs.declared.Report.{Report}
 use Rattle.print.specs.Printed.{op_line, event_line, bad_line}
-use Rattle.card.specs.Cards.{Whole, Made, Passes, StopsAt}
+use Rattle.card.specs.Cards.{Passes, StopsAt}
 use Rattle.card.specs.Tops.{cell_b}
 use Rattle.card.specs.Running.{Ran}
 

@@ -1,21 +1,18 @@
 -- How far the run of a card has come, and what the functions that fill a page say of it. Assumes nothing: these are definitions.
-use Rattle.std.specs.Prelude.{◌≡◌, ◌⊎◌, List, [], ◌∷◌, ◌++◌, map, ℕ, ◌+◌, ◌-◌, ◌*◌, ◌≤◌, ◌<◌, length, take, drop}
+use Rattle.std.specs.Prelude.{◌≡◌, ◌⊎◌, List, [], ◌++◌, map, ℕ, ◌+◌, ◌-◌, ◌*◌, ◌≤◌, ◌<◌, length, take, drop}
 use Rattle.layout.specs.Limits.{max_vars, max_nodes, bare_size, event_size, size_of}
 use Rattle.layout.specs.Bytes.{part}
-use Rattle.text.specs.declared.line.Cell.{Cell}
 use Rattle.text.specs.declared.line.Op.{Op}
 use Rattle.text.specs.declared.line.Line.{Line}
-use Rattle.text.specs.declared.line.Line.TheVariants.{Vars, Nodes, Room, Top, Do}
+use Rattle.text.specs.declared.line.Line.TheVariants.{Top, Do}
 use Rattle.text.specs.Every.{All}
 use Rattle.text.specs.Limits.{max_bytes}
 use Rattle.text.specs.Lines.{InRange}
-use Rattle.card.specs.Cards.{Whole, Made, Passes, text}
+use Rattle.card.specs.Cards.{Passes, text}
 use Rattle.print.specs.Writing.{Wrote}
 use Rattle.play.specs.declared.Handed.{Handed}
-use Rattle.play.specs.declared.Handed.TheVariants as Handed
 use Rattle.play.specs.declared.reading.Heads.{Heads}
 use Rattle.play.specs.declared.reading.Headed.{Headed}
-use Rattle.play.specs.declared.reading.Headed.TheVariants as Headed
 use Rattle.play.specs.declared.progress.Progress.{Progress}
 use Rattle.play.specs.Output.{event_text, events_text, Runs, Begins, Prints, Leaves}
 
@@ -96,12 +93,12 @@ pub record Begun (card : List ℕ) (h : Heads) (tops store trace : ℕ) : Type 0
 -- handed on up to the place n, or lost
 abbrev pub HandedOn : ℕ → Handed → Type 0
 HandedOn n (Handed.To m) = m ≡ n
-HandedOn n Handed.Lost = Unit {0}
+HandedOn n (Handed.Lost error) = Unit {0}
 
 -- all was handed on, and it is the card's whole output; or a write failed
 abbrev pub AllOf : List ℕ → Handed → Type 0
 AllOf card (Handed.To n) = (text : List ℕ) × Prints card [] text × (n ≡ length text)
-AllOf card Handed.Lost = Unit {0}
+AllOf card (Handed.Lost error) = Unit {0}
 
 -- no card prints more bytes: a page for each operation and each event that the longest card can have
 abbrev pub most_bytes : ℕ
@@ -110,4 +107,4 @@ most_bytes = 137447337984
 -- .. and it leaves the store s
 abbrev pub AllLeft : List ℕ → List ℕ → Handed → Type 0
 AllLeft card s (Handed.To n) = (text : List ℕ) × Leaves card text s × (n ≡ length text) × (n ≤ most_bytes)
-AllLeft card s Handed.Lost = Unit {0}
+AllLeft card s (Handed.Lost error) = Unit {0}

@@ -1,5 +1,7 @@
-// Runs one card from its bytes, and writes what it prints to a file descriptor, page by page. The store may be lent, so that a caller has
+// Runs one card from its bytes, and writes what it prints to a writer, page by page. The store may be lent, so that a caller has
 // it as the card's last operation left it.
+#![tactic(auto)]
+
 mod page;
 mod progress;
 mod reading;
@@ -15,6 +17,8 @@ use crate::reading::{Headed, Heads, read_heads, read_tops};
 use card::check::{Verdict, check};
 use layout::Store;
 use print::{Print, put_bad};
+use std::io;
+use std::io::Write;
 
 // The largest store, the largest top cells and the largest trace of a card.
 #[derive(Drop)]
@@ -28,26 +32,32 @@ impl Sizes {
     pub const TRACE: usize = Store::EVENT * (Store::NODES - 1);
 }
 
-// The output was handed on up to a place, or a write failed and errno says why.
-#[derive(Drop)]
+// The output was handed on up to a place, or a write failed and the error says why.
+#[derive(Clone, Copy)]
 pub enum Handed {
     To(usize),
-    Lost,
+    Lost(io::Error),
 }
 
 // The only function that writes: the text, which stands in the card's output at the place from (for which the card is handed in).
-fn hand(card: &[u8], from: usize, text: &[u8], fd: i32) -> Handed
+fn hand<W: Write>(card: &[u8], from: usize, text: &[u8], out: &mut W) -> Handed
     requires { Stands card.now from text.now × (from + length text.now < 2 ^ 64) }
     ensures { HandedOn (from + length text.now) result }
 {
-    if !io::write_all(fd, text) {
-        return Handed::Lost;
+    if let Err(error) = out.write_all(text) {
+        return Handed::Lost(error);
     }
     Handed::To(from + text.len())
 }
 
 // What is printed from a beginning to the end, page by page.
-fn write_pages(start: Progress, card: &[u8], store: &mut [u8], trace: &mut [u8], fd: i32) -> Handed
+fn write_pages<W: Write>(
+    start: Progress,
+    card: &[u8],
+    store: &mut [u8],
+    trace: &mut [u8],
+    out: &mut W,
+) -> Handed
     requires { Ready card.now trace.old start × SoFar card.now [] start store.old trace.old }
     ensures { AllLeft card.now store.new result }
 {
@@ -57,8 +67,9 @@ fn write_pages(start: Progress, card: &[u8], store: &mut [u8], trace: &mut [u8],
     while !is_ended(p, card) {
         p = fill(p, card, store, trace, &mut page);
         let used = p.used;
-        let Handed::To(next) = hand(card, done, &page[..used], fd) else {
-            return Handed::Lost;
+        let next = match hand(card, done, &page[..used], out) {
+            Handed::To(next) => next,
+            Handed::Lost(error) => return Handed::Lost(error),
         };
         done = next;
     }
@@ -66,13 +77,13 @@ fn write_pages(start: Progress, card: &[u8], store: &mut [u8], trace: &mut [u8],
 }
 
 // The lines behind the headings, on lent buffers: the top values, the store as it is opened, the operations.
-fn run_in(
+fn run_in<W: Write>(
     heads: Heads,
     card: &[u8],
     tops: &mut [u8],
     store: &mut [u8],
     trace: &mut [u8],
-    fd: i32,
+    out: &mut W,
 ) -> Handed
     requires { Begun card.now heads (length tops.old) (length store.old) (length trace.old) }
     ensures { AllLeft card.now store.new result }
@@ -88,48 +99,47 @@ fn run_in(
         left: 0,
         used: 0,
     };
-    write_pages(start, card, store, &mut trace[..room], fd)
+    write_pages(start, card, store, &mut trace[..room], out)
 }
 
 // A good card, run on buffers that are large enough for any.
-fn run_card(card: &[u8], store: &mut [u8; Sizes::STORE], fd: i32) -> Handed
+fn run_card<W: Write>(card: &[u8], store: &mut [u8; Sizes::STORE], out: &mut W) -> Handed
     requires { Passes card.now }
     ensures { AllLeft card.now store.new result }
 {
     let Headed::Good(heads) = read_heads(card) else {
-        return Handed::Lost;
+        // a card that passes does not come here
+        return Handed::Lost(io::Error::from(io::ErrorKind::InvalidData));
     };
     let mut tops = [0u8; Sizes::TOPS];
     let mut trace = [0u8; Sizes::TRACE];
-    run_in(heads, card, &mut tops, store, &mut trace, fd)
+    run_in(heads, card, &mut tops, store, &mut trace, out)
 }
 
 // The one line of a card that is no good.
-fn refuse(card: &[u8], line: u32, fd: i32) -> Handed
+fn refuse<W: Write>(card: &[u8], line: u32, out: &mut W) -> Handed
     requires { StopsAt card.now line }
     ensures { (s : List ℕ) → AllLeft card.now s result }
 {
     let mut text = [0u8; Print::LINE];
     let n = put_bad(line, &mut text);
-    hand(card, 0, &text[..n], fd)
+    hand(card, 0, &text[..n], out)
 }
 
 // The card is checked as a whole before anything is run, and run on the lent store. Nothing more is written behind a write that failed.
-pub fn play_in(card: &[u8], store: &mut [u8; Sizes::STORE], fd: i32) -> Handed
-    ensures all_left { AllLeft card.now store.new result }
-    ensures card_value { card.now ≡ card.now }
+pub fn play_in<W: Write>(card: &[u8], store: &mut [u8; Sizes::STORE], out: &mut W) -> Handed
+    ensures { AllLeft card.now store.new result }
 {
     match check(card) {
-        Verdict::Good => run_card(card, store, fd),
-        Verdict::Bad(line) => refuse(card, line, fd),
+        Verdict::Good => run_card(card, store, out),
+        Verdict::Bad(line) => refuse(card, line, out),
     }
 }
 
 // The same on a store of its own.
-pub fn play(card: &[u8], fd: i32) -> Handed
-    ensures all_of { AllOf card.now result }
-    ensures card_value { card.now ≡ card.now }
+pub fn play<W: Write>(card: &[u8], out: &mut W) -> Handed
+    ensures { AllOf card.now result }
 {
     let mut store = [0u8; Sizes::STORE];
-    play_in(card, &mut store, fd)
+    play_in(card, &mut store, out)
 }

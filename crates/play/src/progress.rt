@@ -13,7 +13,7 @@ use text::line::{Line, Next};
 
 // How far a run has come: where the card's next line begins, how many operations were run, which event of the last one is told next
 // and how many are left, and how many bytes of the page are in use.
-#[derive(Drop)]
+#[derive(Clone, Copy)]
 pub(crate) struct Progress {
     pub at: usize,
     pub number: u32,

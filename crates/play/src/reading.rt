@@ -14,7 +14,7 @@ use layout::Store;
 use text::line::{Line, Next, next_line};
 
 // What the heading lines say, and where the lines behind them begin.
-#[derive(Drop)]
+#[derive(Clone, Copy)]
 pub(crate) struct Heads {
     pub vars: u32,
     pub nodes: u32,
@@ -22,7 +22,7 @@ pub(crate) struct Heads {
     pub at: usize,
 }
 
-#[derive(Drop)]
+#[derive(Clone, Copy)]
 pub(crate) enum Headed {
     Good(Heads),
     Bad,

@@ -5,7 +5,6 @@ use Prim.Native.Nat.{ℕ, ◌+◌, ◌≤◌, ◌<◌}
 use native.Mathlib.Omega.{arith}
 use lib.ListN.{length, take}
 use Rattle.play.specs.declared.Handed.{Handed}
-use Rattle.play.specs.declared.Handed.TheVariants as Handed
 use Rattle.play.specs.Steps.{AllLeft}
 use Rattle.play.proofs.Texts.{line_long, front}
 use Rattle.why.specs.declared.asked.Question.TheVariants.{Peek}

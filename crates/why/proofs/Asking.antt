@@ -1,15 +1,14 @@
 -- The lines of a good card, read one by one: what the last of those read so far asks. Assumes nothing.
 use mathlib.Core.Path.{◌≡◌, refl, sym, ap, subst, ◌∙◌}
 use mathlib.Core.List.{List, [], ◌∷◌, ◌++◌, append_assoc, append-nil}
-use Prim.Native.Nat.{ℕ, suc, ◌+◌, ◌-◌, ◌≤◌, ◌<◌}
+use Prim.Native.Nat.{ℕ, ◌+◌, ◌-◌, ◌≤◌, ◌<◌}
 use native.Mathlib.Omega.{arith}
 use lib.ListN.{length, take, drop, length-append, length-drop}
 use Rattle.text.specs.declared.line.Line.{Line}
 use Rattle.text.specs.declared.line.Next.{Next}
-use Rattle.text.specs.declared.line.Next.TheVariants as Next
 use Rattle.text.specs.Finds.{Finds}
 use Rattle.text.specs.Lines.{written, Leads, next_of}
-use Rattle.card.specs.Cards.{Whole, Made, Passes, text}
+use Rattle.card.specs.Cards.{Whole, Passes, text}
 use Rattle.play.specs.Steps.{Ahead}
 use Rattle.play.proofs.Lines.{there, at_end, within, is_missing, is_found}
 use Rattle.why.specs.declared.asked.Question.{Question}

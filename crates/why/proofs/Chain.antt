@@ -2,7 +2,7 @@
 use mathlib.Core.Path.{◌≡◌, refl, sym, ap, subst, ◌∙◌}
 use mathlib.Core.Bool.{Bool, true, false, cond, ◌&&◌}
 use mathlib.Core.List.{List, [], ◌∷◌, ◌++◌, append_assoc, append-nil}
-use Prim.Native.Nat.{ℕ, suc, ◌+◌, ◌*◌, ◌≤◌, ◌<◌}
+use Prim.Native.Nat.{ℕ, ◌+◌, ◌*◌, ◌≤◌, ◌<◌}
 use native.Mathlib.Omega.{arith}
 use lib.ListN.{length}
 use Rattle.rules.specs.Basic.{or_top}
@@ -12,7 +12,7 @@ use Rattle.rules.specs.Why.{chain_by, behind_by, binders}
 use Rattle.layout.specs.View.{view}
 use Rattle.layout.specs.Sound.{Sound}
 use Rattle.layout.specs.Made.{IsMade}
-use Rattle.layout.specs.laws.Reading.{top_made}
+use Rattle.layout.proofs.Reading.{top_made}
 use Rattle.promises.specs.Promises as promises
 use Rattle.promises.specs.declared.Told.{Told}
 use Rattle.promises.specs.Answers.{telling}
@@ -22,7 +22,6 @@ use Rattle.print.specs.Printed.{longest}
 use Rattle.print.specs.Writing.{Wrote, wrote_more}
 use Rattle.print.proofs.Buffer.{reworded}
 use Rattle.play.proofs.Texts.{kept}
-use Rattle.why.specs.declared.explain.Shown.{Shown}
 use Rattle.why.specs.Explained.{held, env_line, env_text, shadow_text, joined, stops, Chained}
 use Rattle.why.proofs.Telling.{told_done, told_is}
 use Rattle.why.proofs.Climb.{path_none, parent_made, path_next, path_less}

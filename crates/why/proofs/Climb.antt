@@ -9,19 +9,19 @@ use native.Mathlib.Decide.{dec_le}
 use lib.Dec.{eqb}
 use lib.ListN.{length}
 use Rattle.rules.specs.Basic.{or_top}
-use Rattle.rules.specs.Tree.{What, blank, top, binding, wind, Proper, path, path_top, path_up}
+use Rattle.rules.specs.Tree.{blank, top, binding, wind, Proper, path}
+use Rattle.rules.proofs.Tree.{path_top, path_up}
 use Rattle.rules.specs.Values.{Cell, unbound, value}
-use Rattle.layout.specs.Limits.{max_nodes}
-use Rattle.layout.specs.Records.{node_of, kind_n, parent_n, var_n, post_n, made, room}
+use Rattle.layout.specs.Records.{node_of, kind_n, parent_n, var_n, post_n}
 use Rattle.layout.specs.Kinds.{within, by_kind}
 use Rattle.layout.specs.Fields.{nodes, fields_of}
 use Rattle.layout.specs.View.{what_n, up_n, tree_f, view_f, view}
 use Rattle.layout.specs.Sound.{Whole}
 use Rattle.layout.specs.Made.{IsMade}
-use Rattle.layout.specs.laws.Laws.{node_in}
-use Rattle.layout.specs.laws.SoundLaws.{up_top, sound_view, shape_inners}
-use Rattle.layout.specs.laws.WalkLaws.{made_room}
-use Rattle.layout.specs.laws.Reading.{up_is, up_made}
+use Rattle.layout.proofs.Laws.{node_in}
+use Rattle.layout.proofs.SoundLaws.{up_top, sound_view, shape_inners}
+use Rattle.layout.proofs.WalkLaws.{made_room}
+use Rattle.layout.proofs.Reading.{up_is, up_made}
 use Rattle.promises.specs.Answers.{tell_binding, telling}
 use Rattle.promises.specs.Promises.{at, tells}
 use Rattle.print.specs.Printed.{longest}

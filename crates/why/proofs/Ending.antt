@@ -1,12 +1,13 @@
 -- The parts of an explanation make the whole text. Assumes nothing.
-use mathlib.Core.Path.{◌≡◌, refl, sym, ap, ◌∙◌}
+use mathlib.Core.Path.{◌≡◌, ap}
 use mathlib.Core.Bool.{true, false}
-use mathlib.Core.List.{List, [], ◌∷◌, ◌++◌}
+use mathlib.Core.List.{List, ◌++◌}
 use Prim.Native.Nat.{ℕ, ◌+◌, ◌≤◌}
 use native.Mathlib.Omega.{arith}
 use lib.ListN.{length, take}
 use Rattle.rules.specs.Tree.{path}
-use Rattle.rules.specs.Why.{chain_whole, binders, shown_at, shadowed_at}
+use Rattle.rules.specs.Why.{binders, shown_at, shadowed_at}
+use Rattle.rules.proofs.Why.{chain_whole}
 use Rattle.layout.specs.View.{view}
 use Rattle.promises.specs.Promises.{at}
 use Rattle.print.specs.declared.Out.{Out}

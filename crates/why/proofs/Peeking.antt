@@ -1,25 +1,22 @@
 -- What the peek says before its value is explained: that store, variable and environment are good, the top value, and which text is wanted.
 -- Assumes nothing.
-use mathlib.Core.Path.{◌≡◌, refl, sym, ap, ◌∙◌}
+use mathlib.Core.Path.{◌≡◌, sym, ap, ◌∙◌}
 use mathlib.Core.Logic.{◌≢◌, ◌⊎◌, inl, inr}
-use mathlib.Core.Bool.{cond}
 use mathlib.Core.List.{List, [], ◌∷◌}
 use Prim.Native.Nat.{ℕ, ◌≤◌, ◌<◌}
 use native.Mathlib.Omega.{arith}
 use native.Mathlib.Decide.{dec_lt}
-use lib.IntN.{ℤ}
 use borrow.Author.Tests.{ne_eqb}
-use Rattle.rules.specs.Values.{Cell, unbound, value}
 use Rattle.rules.specs.Refusals.{no_value}
 use Rattle.layout.specs.Records.{vars, made}
 use Rattle.layout.specs.Sound.{Sound}
 use Rattle.layout.specs.Made.{IsMade}
-use Rattle.layout.specs.laws.Reading.{top_made}
+use Rattle.layout.proofs.Reading.{top_made}
 use Rattle.promises.specs.declared.Flat.{Flat}
 use Rattle.promises.specs.Answers.{Numbers, flat}
-use Rattle.promises.specs.Stable.{sound_stable}
+use Rattle.promises.proofs.Stable.{sound_stable}
 use Rattle.promises.specs.Tables.{First}
-use Rattle.promises.specs.Promises.{at, damaged_row, variable_row, environment_row, value_row, Shows, PeekPromise}
+use Rattle.promises.specs.Promises.{at, damaged_row, variable_row, environment_row, value_row, PeekPromise}
 use Rattle.print.specs.declared.Out.TheVariants.{None, Number}
 use Rattle.why.specs.Explained.{held, found_text, lost_text, why_text}
 

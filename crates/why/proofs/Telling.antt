@@ -1,21 +1,20 @@
 -- What the store tells of an environment, and what is printed of it. Assumes nothing.
-use mathlib.Core.Path.{◌≡◌, refl, sym, ap, ◌∙◌}
-use mathlib.Core.Logic.{◌≢◌, ◌⊎◌, inl, inr}
-use mathlib.Core.Bool.{Bool, true, false, cond}
+use mathlib.Core.Path.{◌≡◌, refl, ap, ◌∙◌}
+use mathlib.Core.Logic.{◌≢◌, inl, inr}
+use mathlib.Core.Bool.{true, false, cond}
 use mathlib.Core.List.{List, [], ◌∷◌}
-use Prim.Native.Nat.{ℕ, suc}
+use Prim.Native.Nat.{ℕ}
 use native.Mathlib.Omega.{arith}
 use lib.Dec.{eqb}
-use lib.IntN.{ℤ}
 use borrow.Author.Tests.{eqb-true}
-use Rattle.rules.specs.Basic.{clash}
+use Rattle.rules.proofs.Basic.{clash}
 use Rattle.rules.specs.Tree.{What, blank, top, binding, wind, binds}
 use Rattle.rules.specs.Values.{Cell, unbound, value}
 use Rattle.layout.specs.Sound.{Sound}
 use Rattle.layout.specs.Made.{IsMade}
 use Rattle.promises.specs.declared.Told.{Told}
 use Rattle.promises.specs.Answers.{tell_binding, telling}
-use Rattle.promises.specs.Tables.{Row, First}
+use Rattle.promises.specs.Tables.{First}
 use Rattle.promises.specs.Promises.{damaged_row, environment_row, tells, TellPromise}
 use Rattle.print.specs.declared.Out.{Out}
 use Rattle.print.specs.declared.Out.TheVariants.{None, Number}

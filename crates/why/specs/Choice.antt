@@ -1,25 +1,26 @@
 -- The explanation leaves no choice, and what it shows is what document 02, W7, asks: the decider is the deep rule's, decider and shadowed are
 -- every binding of the variable on the path, each once, in order, and each is shown with its own value. Assumes nothing.
-use Rattle.std.specs.Prelude.{◌≡◌, ◌≢◌, List, [], ◌∷◌, ℕ, ◌≤◌, eqb}
+use Rattle.std.specs.Prelude.{◌≡◌, ◌≢◌, List, [], ◌∷◌, ℕ, ◌≤◌}
 use Rattle.std.proofs.Common.{sym, subst, ◌∙◌}
 use Rattle.std.proofs.Math.Path.{ap}
 use Rattle.std.proofs.Math.Option.{none, some}
 use native.Mathlib.Omega.{arith}
 use Rattle.std.proofs.Math.Decide.{dec_le}
-use Rattle.rules.specs.Basic.{eqb_self, clash}
-use Rattle.rules.specs.Tree.{What, blank, top, binding, wind, Proper, path_top, path_up}
+use Rattle.rules.proofs.Basic.{eqb_self}
+use Rattle.rules.specs.Tree.{What, blank, top, binding, wind, Proper}
+use Rattle.rules.proofs.Tree.{path_top, path_up}
 use Rattle.rules.specs.Store.{home}
 use Rattle.rules.specs.Calls.{decider_at, value_at}
-use Rattle.rules.specs.Why.{Why, why}
+use Rattle.rules.specs.Why.{Why}
+use Rattle.rules.proofs.Why.{why}
 use Rattle.layout.specs.Records.{node_of, parent_n}
 use Rattle.layout.specs.Fields.{fields_of}
 use Rattle.layout.specs.View.{up_n, tree_f, view_f, view}
 use Rattle.layout.specs.Sound.{Sound}
-use Rattle.layout.specs.Made.{IsMade}
-use Rattle.layout.specs.laws.SoundLaws.{up_top, sound_view}
-use Rattle.layout.specs.laws.WalkLaws.{seen_made}
-use Rattle.layout.specs.laws.Reading.{top_what, up_is}
-use Rattle.promises.specs.Tables.{first_one}
+use Rattle.layout.proofs.SoundLaws.{up_top, sound_view}
+use Rattle.layout.proofs.WalkLaws.{seen_made}
+use Rattle.layout.proofs.Reading.{top_what, up_is}
+use Rattle.promises.proofs.Tables.{first_one}
 use Rattle.promises.specs.Promises.{meaning, at, damaged_row, variable_row, environment_row, value_row}
 use Rattle.print.specs.Writing.{Wrote, wrote_one}
 use Rattle.why.specs.Explained.{why_text, Explains}

@@ -5,7 +5,6 @@ use Rattle.promises.specs.Answers.{Numbers}
 use Rattle.promises.specs.Promises.{PeekPromise}
 use Rattle.print.specs.Printed.{bad_line}
 use Rattle.play.specs.declared.Handed.{Handed}
-use Rattle.play.specs.declared.Handed.TheVariants as Handed
 use Rattle.play.specs.Output.{Leaves}
 use Rattle.why.specs.declared.asked.Question.TheVariants.{Peek, Bad}
 use Rattle.why.specs.Asking.{Asks}
@@ -25,4 +24,4 @@ pub record Ends (card : List ℕ) (at : ℕ) (text : List ℕ) : Type 0 where
 -- all was handed on, and it is the whole output; or a write failed
 abbrev pub AllSaid : List ℕ → Handed → Type 0
 AllSaid card (Handed.To n) = (text : List ℕ) × Says card text × (n ≡ length text)
-AllSaid card Handed.Lost = Unit {0}
+AllSaid card (Handed.Lost error) = Unit {0}

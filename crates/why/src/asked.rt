@@ -7,7 +7,7 @@ use card::check::{Verdict, check};
 use text::line::{Line, Next, Op, next_line};
 
 // The environment and the variable of the peek; or the first bad line, and the last line where the card is good and asks nothing.
-#[derive(Drop)]
+#[derive(Clone, Copy)]
 pub enum Question {
     Peek(u32, u32),
     Bad(u32),

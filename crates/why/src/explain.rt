@@ -30,7 +30,7 @@ impl Explanation {
 }
 
 // Where the lines up to the decider end: the place behind them, and the parent of the environment told last.
-#[derive(Drop)]
+#[derive(Clone, Copy)]
 pub(crate) struct Shown {
     pub at: usize,
     pub next: u32,

@@ -1,18 +1,21 @@
 // Reads one card from standard input, runs it and says why its last peek found what it found.
-use libc::{STDIN_FILENO, STDOUT_FILENO};
+#![tactic(auto)]
+
 use play::Handed;
 use report::Input;
 use text::Card;
 
-fn main() {
+fn main(rt: HostRuntime) {
     // one byte more than a card may have, so that a card that is too long is seen
     let mut card = [0u8; Card::BYTES + 1];
-    let Input::Bytes(n) = report::read_all(STDIN_FILENO, &mut card) else {
-        report::cannot_read(b"whyval");
-        return;
+    let n = match report::read_all(&mut rt.stdin(), &mut card) {
+        Input::Bytes(n) => n,
+        Input::Failed(error) => {
+            report::cannot_read(b"whyval", error, &mut rt.stderr());
+            return;
+        }
     };
-    let Handed::To(_) = why::why(&card[..n], STDOUT_FILENO) else {
-        report::cannot_write(b"whyval");
-        return;
-    };
+    if let Handed::Lost(error) = why::why(&card[..n], &mut rt.stdout()) {
+        report::cannot_write(b"whyval", error, &mut rt.stderr());
+    }
 }
