@@ -1,5 +1,5 @@
 -- What crosses to C: the structs' fields are document 01's numbers, and what is told of an environment; the limits by their place. Assumes nothing.
-use Rattle.std.specs.Prelude.{◌≡◌, ℕ, zero, suc, List, [], ◌∷◌, get_or}
+use Rattle.std.specs.Prelude.{◌≡◌, ℕ, [], ◌∷◌, get_or}
 use Rattle.std.proofs.Common.{sym, ap, ◌∙◌}
 use Rattle.rules.specs.Basic.{or_top}
 use Rattle.layout.specs.Limits.{max_vars, max_nodes, header, cell_size, node_size, event_size}

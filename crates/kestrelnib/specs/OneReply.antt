@@ -6,7 +6,7 @@ use Rattle.std.proofs.Common.{sym, ◌∙◌}
 use Rattle.rules.specs.Act.{Ask, Child, Goal, Stride, Call}
 use Rattle.layout.specs.Bytes.{Bytes}
 use Rattle.promises.specs.Promises.{OpenPromise, LookPromise, PeekPromise, FarPromise, TellPromise, HerePromise, SetPromise, BindPromise, WindPromise, GotoPromise, BackPromise, BeginPromise, StepPromise, DropPromise}
-use Rattle.demands.specs.NoChoice.{no_choice, no_choice_untraced, open_one, tell_one}
+use Rattle.demands.proofs.NoChoice.{no_choice, no_choice_untraced, open_one, tell_one}
 use Rattle.kestrelnib.specs.declared.Reply.{Reply}
 use Rattle.kestrelnib.specs.declared.Env.{Env}
 use Rattle.kestrelnib.specs.Face.{Hands, hands_one, told_of, told_once}

@@ -1,4 +1,6 @@
 // The C face: the fourteen calls for the firmware. Each hands its numbers and buffers on, and its answer back as one plain struct.
+#![tactic(auto)]
+
 ghost use Rattle.std.specs.Prelude.{◌≡◌};
 ghost use Rattle.promises.specs.Answers.{numbers};
 ghost use Rattle.promises.specs.Promises.{OpenPromise, BindPromise, WindPromise, LookPromise, SetPromise, HerePromise, GotoPromise, BackPromise, PeekPromise, FarPromise, TellPromise, BeginPromise, StepPromise, DropPromise};
@@ -9,7 +11,7 @@ use promises::{Answer, Told, numbers_of};
 // Document 01's numbers of an answer: the answer itself, its number, the moves, the number of events; of a value the decider,
 // of a step the thunk and the event that it hands over.
 #[repr(C)]
-#[derive(Drop)]
+#[derive(Clone, Copy)]
 pub struct Reply {
     pub out: i32,
     pub code: u16,
@@ -37,8 +39,7 @@ fn numbered(a: Answer) -> Reply
 
 #[unsafe(no_mangle)]
 pub extern "C" fn kn_open(vars: u32, nodes: u32, tops: &[u8], store: &mut [u8]) -> Reply
-    ensures hands { Hands result (OpenPromise vars nodes tops.now store.old store.new) }
-    ensures tops_value { tops.now ≡ tops.now }
+    ensures { Hands result (OpenPromise vars nodes tops.now store.old store.new) }
 {
     numbered(store::open(vars, nodes, tops, store))
 }
@@ -108,7 +109,7 @@ pub extern "C" fn kn_far(store: &[u8], a: u32, b: u32) -> Reply
 
 // What an environment is: the fields are those told.
 #[repr(C)]
-#[derive(Drop)]
+#[derive(Clone, Copy)]
 pub struct Env {
     pub value: i32,
     pub code: u16,
