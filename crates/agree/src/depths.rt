@@ -1,111 +1,142 @@
 // False depths: every call refuses, whichever node has one, and where all are false alike.
-use crate::buffer::{less, number16, plus, spell16};
-use crate::compare::{BLANK_DEPTH, NODE_DEPTH, SHIFTED, TOP_DEPTH, count};
-use crate::damage::{all_refuse, verdict};
-use crate::model::{DEPTH, FOCUS, MADE, ROOM, SPACE, VARS, head, of};
-use crate::say::Loud;
-use crate::{draw, image, say};
+use crate::bench::Bench;
+use crate::buffer::{number, put_number, short};
+use crate::counts::Count;
+use crate::draw::Draws;
+use crate::found::Found;
+use crate::image::node_at;
+use crate::model::Model;
 
-// Ways to be false: a node in five ways, then the top, a blank and all.
-pub(crate) const WAYS: usize = 8;
+// Of a blank, that of the environment that last had its number.
+fn depth(m: &Model, n: usize) -> u16 {
+    m.node(short(n)).depth
+}
 
-// Where the header has the focus.
-const FOCUS_AT: usize = 6;
+// How a node's depth is false: one too many, one too few, 0, some node's, or with a high byte.
+#[derive(Clone, Copy, Debug, PartialEq, Eq)]
+enum Wrong {
+    OneMore,
+    OneLess,
+    Zero,
+    Another,
+    HighByte,
+}
+
+impl Wrong {
+    const ALL: [Wrong; 5] = [
+        Wrong::OneMore,
+        Wrong::OneLess,
+        Wrong::Zero,
+        Wrong::Another,
+        Wrong::HighByte,
+    ];
+
+    fn drawn(g: Draws) -> Wrong {
+        Wrong::ALL
+            .get(g.below(5))
+            .copied()
+            .unwrap_or(Wrong::HighByte)
+    }
+
+    // What is added to the depth d.
+    fn by(self, g: Draws, m: &Model, d: u16) -> u32 {
+        let other = u32::from(depth(m, g.below(m.made())));
+        let d = u32::from(d);
+        match self {
+            Wrong::OneMore => 1,
+            Wrong::OneLess => 65_535,
+            Wrong::Zero => 65_536 - d,
+            Wrong::Another => 65_536 + other - d,
+            Wrong::HighByte => 256 * (u32::from(short(g.below(255))) + 1),
+        }
+    }
+}
 
 // The nodes from one on, before another, are this much deeper (65,535: one less), with this focus; and where it is counted.
 #[derive(Clone, Copy)]
 struct Fault {
     from: usize,
     end: usize,
-    by: usize,
-    focus: usize,
-    counted: usize,
-}
-
-// What is added to the depth d: one, one less, what makes it 0, what makes it some node's, or a high byte.
-fn wrong(g: usize, m: &[usize; SPACE], blow: usize, d: usize) -> usize {
-    let other = of(m, DEPTH, draw::draw(g, head(m, MADE)));
-    match blow {
-        0 => 1,
-        1 => 65_535,
-        2 => less(65_536, d),
-        3 => less(plus(65_536, other), d),
-        _ => 256 * (draw::draw(g, 255) % 255 + 1),
-    }
+    by: u32,
+    focus: u16,
+    counted: Count,
 }
 
 // Of one node from `low` on, before `end`; by nothing where there is none.
-fn one(g: usize, m: &[usize; SPACE], blow: usize, low: usize, end: usize, counted: usize) -> Fault {
-    let n = draw::between(g, low, end);
-    let by = wrong(draw::next(g), m, blow, of(m, DEPTH, n));
+fn one(g: Draws, m: &Model, wrong: Wrong, low: usize, end: usize, counted: Count) -> Fault {
+    let n = g.between(low, end);
+    let by = wrong.by(g.next(), m, depth(m, n));
     Fault {
         from: n,
-        end: plus(n, 1),
+        end: n.wrapping_add(1),
         by: if n < end { by } else { 0 },
-        focus: head(m, FOCUS),
+        focus: m.focus,
         counted,
     }
 }
 
 // Of all, the top too, by as many as are in, and the focus is the top: that the top is not 0 deep is all that is false.
-fn shifted(m: &[usize; SPACE]) -> Fault {
+fn shifted(m: &Model) -> Fault {
     Fault {
         from: 0,
-        end: head(m, MADE),
-        by: of(m, DEPTH, head(m, FOCUS)),
+        end: m.made(),
+        by: u32::from(m.node(m.focus).depth),
         focus: 0,
-        counted: SHIFTED,
+        counted: Count::Shifted,
     }
 }
 
-fn drawn(g: usize, m: &[usize; SPACE], way: usize) -> Fault {
-    let made = head(m, MADE);
-    let blow = draw::draw(g, 5);
-    match way {
-        5 => one(g, m, blow, 0, 1, TOP_DEPTH),
-        6 => one(g, m, blow, made, head(m, ROOM), BLANK_DEPTH),
-        7 => shifted(m),
-        _ => one(g, m, way, 1, made, NODE_DEPTH),
-    }
+// A node in each way; then the top, a blank and all.
+fn faults(g: Draws, m: &Model) -> [Fault; 8] {
+    let drawn = Wrong::drawn(g);
+    let made = m.made();
+    let node = |wrong: Wrong| one(g, m, wrong, 1, made, Count::NodeDepth);
+    [
+        node(Wrong::OneMore),
+        node(Wrong::OneLess),
+        node(Wrong::Zero),
+        node(Wrong::Another),
+        node(Wrong::HighByte),
+        one(g, m, drawn, 0, 1, Count::TopDepth),
+        one(g, m, drawn, made, usize::from(m.room), Count::BlankDepth),
+        shifted(m),
+    ]
 }
 
-// The depths of these nodes, in a store of v variables, become this much deeper.
-fn deepen(s: &mut [u8], v: usize, e: Fault, by: usize) {
-    let end = e.end;
-    let mut n = e.from;
-    while n < end {
-        let at = plus(image::node_at(v, n), 12);
-        let d = number16(s, at);
-        spell16(s, at, plus(d, by));
-        n += 1;
+impl Bench {
+    // The depths of these nodes become this much deeper.
+    fn deepen(&mut self, e: Fault, vars: usize, by: u16) {
+        let s = self.store.as_mut_slice();
+        for n in e.from..e.end {
+            let at = node_at(vars, n).wrapping_add(12);
+            put_number(s, at, number(s, at).wrapping_add(by));
+        }
     }
-}
 
-// Whether the model takes the bytes for damaged and every call refuses them. Then the focus is f again.
-fn refused(g: usize, f: usize, s: &mut [u8], m: &mut [usize; SPACE]) -> bool {
-    let sound = image::take(s, m);
-    all_refuse(g, FOCUS_AT, f, s) && !sound
-}
-
-// Depths false in this way, in bytes that agree, are refused; then they are right again.
-pub(crate) fn false_depths(
-    loud: Loud,
-    g: usize,
-    way: usize,
-    s: &mut [u8],
-    m: &mut [usize; SPACE],
-) -> usize {
-    let e = drawn(g, m, way);
-    let f = head(m, FOCUS);
-    let v = head(m, VARS);
-    if e.by % 65_536 == 0 {
-        return 0;
+    // Depths false in this way, in bytes that agree, are refused; then they are right again.
+    fn false_depth(&mut self, g: Draws, e: Fault) -> Result<(), Found> {
+        let Fault { from, end, by, .. } = e;
+        let deeper = (by % 65_536) as u16;
+        let focus = self.model.focus;
+        let vars = self.model.vars();
+        if deeper == 0 {
+            return Ok(());
+        }
+        self.loud.line(format_args!("false depths: from node={from} before={end} plus={by}"));
+        self.counts.add(e.counted, 1);
+        put_number(self.store.as_mut_slice(), 6, e.focus);
+        self.deepen(e, vars, deeper);
+        let sound = self.take()?;
+        let refused = self.all_refuse(g)? && !sound;
+        put_number(self.store.as_mut_slice(), 6, focus);
+        self.deepen(e, vars, 0u16.wrapping_sub(deeper));
+        self.taken_again(refused)
     }
-    say::line(loud, say::DEPTHS, e.from, e.end, e.by);
-    count(m, e.counted, 1);
-    spell16(s, FOCUS_AT, e.focus);
-    deepen(s, v, e, e.by);
-    let all = refused(g, f, s, m);
-    deepen(s, v, e, less(65_536, e.by));
-    verdict(all, image::take(s, m))
+
+    pub(crate) fn false_depths(&mut self, g: Draws) -> Result<(), Found> {
+        for fault in faults(g, &self.model).iter() {
+            self.false_depth(g, *fault)?;
+        }
+        Ok(())
+    }
 }

@@ -1,343 +1,422 @@
 // What is drawn: the size of a sequence's store, its operations and their numbers, all from the sequence's seed by a linear
 // congruential generator.
-use crate::buffer::{plus, poke};
-use crate::image::put_cell;
-use crate::model::{FOCUS, MADE, SPACE, UNBOUND, VARS, head, is_full, place, up, way};
-use crate::walk::walking;
+use crate::buffer::{put, short, word};
+use crate::calls::{Call, Op};
+use crate::image::cell;
+use crate::model::Model;
 use layout::Store;
+use std::alloc::{AllocError, Global};
+use std::fmt;
 
 // ---- the generator
 
 const CYCLE: usize = 1_099_511_627_776;
 
-pub(crate) fn next(g: usize) -> usize {
-    (g % CYCLE * 1_664_525 + 1_013_904_223) % CYCLE
-}
+// The generator's state.
+#[derive(Clone, Copy)]
+pub(crate) struct Draws(usize);
 
-// What is left of a by n; 0 for n = 0.
-fn rest(a: usize, n: usize) -> usize {
-    if 0 < n { a % n } else { 0 }
-}
+impl Draws {
+    pub(crate) fn new(seed: usize) -> Draws {
+        Draws(seed)
+    }
 
-// A number below n, from the upper bits.
-pub(crate) fn draw(g: usize, n: usize) -> usize {
-    rest(g / 256, n)
-}
+    pub(crate) fn next(self) -> Draws {
+        Draws((self.0 % CYCLE * 1_664_525 + 1_013_904_223) % CYCLE)
+    }
 
-// Once in n draws.
-fn once_in(g: usize, n: usize) -> bool {
-    draw(g, n) == 0
+    // Two draws later.
+    pub(crate) fn later(self) -> Draws {
+        self.next().next()
+    }
+
+    // So many numbers on.
+    pub(crate) fn apart(self, n: usize) -> Draws {
+        Draws(self.0.wrapping_add(n))
+    }
+
+    // A number below n, from the upper bits; 0 for n = 0.
+    pub(crate) fn below(self, n: usize) -> usize {
+        (self.0 / 256).checked_rem(n).unwrap_or(0)
+    }
+
+    // Once in n draws.
+    pub(crate) fn once_in(self, n: usize) -> bool {
+        self.below(n) == 0
+    }
+
+    // From 1 to n.
+    fn up_to(self, n: usize) -> usize {
+        self.below(n).wrapping_add(1)
+    }
+
+    // Which of n environments or variables.
+    pub(crate) fn which(self, n: usize) -> usize {
+        self.next().below(n)
+    }
+
+    // Some number from `low` on, before `end` where there is one.
+    pub(crate) fn between(self, low: usize, end: usize) -> usize {
+        low.wrapping_add(self.below(end.wrapping_sub(low)))
+    }
 }
 
 // ---- kinds of sequences: a seed's last digit
 
-const KINDS: usize = 10;
-
-pub(crate) const DEEP: usize = 0;
-
-pub(crate) const BUSHY: usize = 1;
-
-pub(crate) const SAME: usize = 2;
-
-pub(crate) const WINDS: usize = 3;
-
-pub(crate) const JUMPS: usize = 4;
-
-pub(crate) const FULL: usize = 5;
-
-pub(crate) const DAMAGED: usize = 6;
-
-pub(crate) const ROOMS: usize = 7;
-
-pub(crate) const EDGES: usize = 8;
-
-pub(crate) const NONE: usize = 9;
-
-// The operations of a kind by their letters, each as often as it stands: Bind, Wind, Look, Set, Here, Goto, bacK, Peek,
-// Far, begIn, sTep, dRop, Damage, Unbind a cell, Open, Cut off. A row for each kind; deep chains grow until the store is full, and
-// then have the last but one. During a walk every other is one of the last.
-const MENU: usize = 20;
-
-const MENUS: [u8; MENU * (KINDS + 2)] = *b"bbbbbbbbbwwwwlspfttr\
-    bbbbwwggggggklspfiit\
-    bbbbbbssssgggklpfiir\
-    wwwwwwwggggggkkbfiit\
-    bbbwwggggggggglpfiir\
-    bbbbbbwwwwgklsphfiit\
-    bbbwwggsddddddupfiit\
-    bwwwwwggggggggkkfiir\
-    bwglsphkoocckgsbfiit\
-    bblllssspppggkwufiir\
-    gggggkkkssslpphbfiit\
-    tttttttttttttsslhpfr";
-
-// The row of the next operation.
-fn row(kind: usize, g: usize, m: &[usize; SPACE]) -> usize {
-    if walking(m) && once_in(next(g), 2) {
-        return KINDS + 1;
-    }
-    if kind == DEEP && is_full(m) {
-        return KINDS;
-    }
-    kind
+#[derive(Clone, Copy, Debug, PartialEq, Eq)]
+pub(crate) enum Kind {
+    Deep,
+    Bushy,
+    Same,
+    Winds,
+    Jumps,
+    Full,
+    Damaged,
+    Rooms,
+    Edges,
+    Unbound,
 }
 
-// Its letter.
-pub(crate) fn what(kind: usize, g: usize, m: &[usize; SPACE]) -> u8 {
-    MENUS[row(kind, g, m) % (KINDS + 2) * MENU + draw(g, MENU) % MENU]
+impl Kind {
+    fn of(seed: usize) -> Kind {
+        match seed % 10 {
+            0 => Kind::Deep,
+            1 => Kind::Bushy,
+            2 => Kind::Same,
+            3 => Kind::Winds,
+            4 => Kind::Jumps,
+            5 => Kind::Full,
+            6 => Kind::Damaged,
+            7 => Kind::Rooms,
+            8 => Kind::Edges,
+            _ => Kind::Unbound,
+        }
+    }
 }
+
+impl fmt::Display for Kind {
+    fn fmt<W: fmt::Write>(&self, f: &mut fmt::Formatter<W>) -> fmt::Result {
+        f.write_str(match self {
+            Kind::Deep => "deep",
+            Kind::Bushy => "bushy",
+            Kind::Same => "same variable",
+            Kind::Winds => "winds",
+            Kind::Jumps => "jumps",
+            Kind::Full => "full",
+            Kind::Damaged => "damaged",
+            Kind::Rooms => "rooms",
+            Kind::Edges => "edges",
+            Kind::Unbound => "unbound",
+        })
+    }
+}
+
+// ---- what comes next
+
+// A call, or what is done to the store between calls: a byte of it damaged, a cell hollowed, it opened again or lent too short.
+#[derive(Clone, Copy, Debug, PartialEq, Eq)]
+pub(crate) enum Turn {
+    Bind,
+    Wind,
+    Look,
+    Set,
+    Here,
+    Goto,
+    Back,
+    Peek,
+    Far,
+    Begin,
+    Step,
+    Drop,
+    Damage,
+    Hollow,
+    Open,
+    Cut,
+}
+
+impl Turn {
+    // Whether what it does goes by the store's bytes.
+    pub(crate) fn goes_by_bytes(self) -> bool {
+        matches!(self, Turn::Damage | Turn::Hollow | Turn::Open)
+    }
+
+    // By the letters of a menu.
+    fn of(letter: u8) -> Turn {
+        match letter {
+            b'b' => Turn::Bind,
+            b'w' => Turn::Wind,
+            b'l' => Turn::Look,
+            b's' => Turn::Set,
+            b'h' => Turn::Here,
+            b'g' => Turn::Goto,
+            b'k' => Turn::Back,
+            b'f' => Turn::Far,
+            b'i' => Turn::Begin,
+            b't' => Turn::Step,
+            b'r' => Turn::Drop,
+            b'd' => Turn::Damage,
+            b'u' => Turn::Hollow,
+            b'o' => Turn::Open,
+            b'c' => Turn::Cut,
+            _ => Turn::Peek,
+        }
+    }
+}
+
+// What a turn is drawn from: the kind of the sequence, the generator's state, and the model.
+#[derive(Clone, Copy)]
+pub(crate) struct Source<'a> {
+    pub kind: Kind,
+    pub g: Draws,
+    pub m: &'a Model,
+}
+
+impl Source<'_> {
+    // The menu of the next operation: each stands as often as it is to be drawn. Bind, Wind, Look, Set, Here, Goto, bacK, Peek, Far,
+    // begIn, sTep, dRop, Damage, Unbind a cell, Open, Cut off: twenty names to a row would be no plainer. During a walk every other operation has a menu of its own. Deep chains grow
+    // until the store is full, and then have another.
+    fn menu(self) -> &'static [u8; 20] {
+        if self.m.walk.is_some() && self.g.next().once_in(2) {
+            return b"tttttttttttttsslhpfr";
+        }
+        match self.kind {
+            Kind::Deep if self.m.is_full() => b"gggggkkkssslpphbfiit",
+            Kind::Deep => b"bbbbbbbbbwwwwlspfttr",
+            Kind::Bushy => b"bbbbwwggggggklspfiit",
+            Kind::Same => b"bbbbbbssssgggklpfiir",
+            Kind::Winds => b"wwwwwwwggggggkkbfiit",
+            Kind::Jumps => b"bbbwwggggggggglpfiir",
+            Kind::Full => b"bbbbbbwwwwgklsphfiit",
+            Kind::Damaged => b"bbbwwggsddddddupfiit",
+            Kind::Rooms => b"bwwwwwggggggggkkfiir",
+            Kind::Edges => b"bwglsphkoocckgsbfiit",
+            Kind::Unbound => b"bblllssspppggkwufiir",
+        }
+    }
+
+    pub(crate) fn turn(self) -> Turn {
+        let letter = self.menu().get(self.g.below(20)).copied();
+        Turn::of(letter.unwrap_or(b'p'))
+    }
+}
+
+// ---- plans
 
 // A sequence: its kind, the store's V and N, how many operations, how many bytes are lent after the store.
 #[derive(Clone, Copy)]
 pub(crate) struct Plan {
-    pub kind: usize,
+    pub kind: Kind,
     pub vars: usize,
     pub nodes: usize,
     pub steps: usize,
     pub slack: usize,
 }
 
-fn drawn_plan(kind: usize, g: usize, vars: usize, nodes: usize, steps: usize) -> Plan {
-    Plan {
-        kind,
-        vars,
-        nodes,
-        steps,
-        slack: draw(g, 64),
+impl fmt::Display for Plan {
+    fn fmt<W: fmt::Write>(&self, f: &mut fmt::Formatter<W>) -> fmt::Result {
+        writeln!(f, "kind={} lent after the store={}", self.kind, self.slack)?;
+        writeln!(f, "vars={}", self.vars)?;
+        write!(f, "nodes={}", self.nodes)
     }
 }
 
-// The largest store.
-fn large_plan(kind: usize, g: usize) -> Plan {
-    let vars = match kind {
-        SAME => 1,
-        EDGES | NONE => Store::VARS,
-        _ => plus(1, draw(g, 8)),
-    };
-    let steps = match kind {
-        DEEP | WINDS | FULL => 3_600,
-        _ => 400,
-    };
-    drawn_plan(kind, next(g), vars, Store::NODES, steps)
-}
-
-fn middle_plan(kind: usize, g: usize) -> Plan {
-    drawn_plan(
-        kind,
-        g,
-        plus(1, draw(g, 6)),
-        plus(50, draw(next(g), 200)),
-        300,
-    )
-}
-
-fn small_plan(kind: usize, g: usize) -> Plan {
-    let g2 = next(g);
-    let g3 = next(g2);
-    let most = match kind {
-        FULL => 6,
-        EDGES => 4,
-        _ => 24,
-    };
-    drawn_plan(
-        kind,
-        next(g3),
-        plus(1, draw(g, 4)),
-        plus(1, draw(g2, most)),
-        plus(40, draw(g3, 24)),
-    )
-}
-
-// Of 600 sequences of a kind one has the largest store; of 50 one has a middling one.
-pub(crate) fn planned(seed: usize) -> Plan {
-    let kind = seed % KINDS;
-    let turn = seed / KINDS;
-    let g = next(next(seed));
-    if turn % 600 == 7 {
-        return large_plan(kind, g);
+impl Plan {
+    // The largest store.
+    fn large(kind: Kind, g: Draws) -> Plan {
+        Plan {
+            kind,
+            vars: match kind {
+                Kind::Same => 1,
+                Kind::Edges | Kind::Unbound => Store::VARS,
+                _ => g.up_to(8),
+            },
+            nodes: Store::NODES,
+            steps: match kind {
+                Kind::Deep | Kind::Winds | Kind::Full => 3_600,
+                _ => 400,
+            },
+            slack: g.next().below(64),
+        }
     }
-    if turn % 50 == 3 {
-        return middle_plan(kind, g);
+
+    fn middle(kind: Kind, g: Draws) -> Plan {
+        Plan {
+            kind,
+            vars: g.up_to(6),
+            nodes: g.next().below(200).wrapping_add(50),
+            steps: 300,
+            slack: g.below(64),
+        }
     }
-    small_plan(kind, g)
+
+    fn small(kind: Kind, g: Draws) -> Plan {
+        let g2 = g.next();
+        let g3 = g2.next();
+        let most = match kind {
+            Kind::Full => 6,
+            Kind::Edges => 4,
+            _ => 24,
+        };
+        Plan {
+            kind,
+            vars: g.up_to(4),
+            nodes: g2.up_to(most),
+            steps: g3.below(24).wrapping_add(40),
+            slack: g3.next().below(64),
+        }
+    }
+
+    // Of 600 sequences of a kind one has the largest store; of 50 one has a middling one.
+    pub(crate) fn of(seed: usize) -> Plan {
+        let kind = Kind::of(seed);
+        let turn = seed / 10;
+        let g = Draws::new(seed).later();
+        if turn % 600 == 7 {
+            return Plan::large(kind, g);
+        }
+        if turn % 50 == 3 {
+            return Plan::middle(kind, g);
+        }
+        Plan::small(kind, g)
+    }
 }
 
-// ---- operations
-
-// An operation: its letter, its numbers in the order of a card, and the bytes of trace lent to it.
-#[derive(Clone, Copy)]
-pub(crate) struct Op {
-    pub what: u8,
-    pub one: usize,
-    pub two: usize,
-    pub trace: usize,
-}
+// ---- calls
 
 // A number below the limit; now and then the limit, or one that is far too large.
-fn near(kind: usize, g: usize, limit: usize) -> usize {
-    let odds = if kind == EDGES { 6 } else { 40 };
-    let g2 = next(g);
-    if once_in(g, odds) {
-        return limit;
+fn near(kind: Kind, g: Draws, limit: usize) -> u32 {
+    let odds = if kind == Kind::Edges { 6 } else { 40 };
+    let g2 = g.next();
+    if g.once_in(odds) {
+        return word(limit);
     }
-    if once_in(g2, plus(odds, odds)) {
-        return plus(65_536, draw(g, limit));
+    if g2.once_in(odds + odds) {
+        return word(g.below(limit).wrapping_add(65_536));
     }
-    if once_in(next(g2), plus(odds, odds)) {
-        return 4_294_967_295;
+    if g2.next().once_in(odds + odds) {
+        return u32::MAX;
     }
-    draw(g, limit)
+    word(g.below(limit))
 }
 
-// The bits of a value: any, one near 0, or one at the ends of the range.
-fn bits(g: usize) -> usize {
-    let g2 = next(g);
-    match draw(g, 4) {
-        0 => draw(g2, UNBOUND),
-        1 => 2_147_483_647,
-        2 => 2_147_483_648,
-        _ => draw(g2, 100),
+// A value: any, one near 0, or one at the ends of the range.
+fn value(g: Draws) -> i32 {
+    let g2 = g.next();
+    match g.below(4) {
+        0 => word(g2.below(4_294_967_296)).cast_signed(),
+        1 => i32::MAX,
+        2 => i32::MIN,
+        _ => word(g2.below(100)).cast_signed(),
     }
 }
 
-// An environment: any, or, for jumps, one as far off as half of them.
-fn environment(kind: usize, g: usize, m: &[usize; SPACE]) -> usize {
-    let made = head(m, MADE);
-    if kind == JUMPS && once_in(next(g), 2) {
-        return rest(plus(head(m, FOCUS), made / 2), plus(made, 1));
-    }
-    near(kind, g, made)
-}
-
-// How many events a switch to a tells.
-fn events_to(m: &[usize; SPACE], a: usize) -> usize {
-    let mut notes = [0u8; Store::EVENT * Store::NODES];
-    way(m, a, Store::NODES, &mut notes).events
+// How many events a switch to a tells; where a is not made, to what last had that number.
+fn events_to(m: &Model, a: u32) -> Result<usize, AllocError> {
+    let moves = m.moves(m.focus, u16::try_from(a).unwrap_or(0))?;
+    Ok(m.events(moves.as_slice())?.len())
 }
 
 // The bytes of trace: room for exactly the events, for one fewer, or for a few more; and some bytes over.
-fn trace(kind: usize, g: usize, need: usize) -> usize {
-    let g2 = next(g);
-    let over = draw(next(g2), Store::EVENT);
-    let odds = if kind == ROOMS { 1 } else { 5 };
-    if !once_in(g, odds) {
-        return place(over, Store::EVENT, plus(need, 3));
-    }
-    if need == 0 || once_in(g2, 2) {
-        return place(over, Store::EVENT, need);
-    }
-    place(over, Store::EVENT, need - 1)
+fn trace(kind: Kind, g: Draws, need: usize) -> usize {
+    let g2 = g.next();
+    let over = g2.next().below(Store::EVENT);
+    let odds = if kind == Kind::Rooms { 1 } else { 5 };
+    let room = if !g.once_in(odds) {
+        need.saturating_add(3)
+    } else if g2.once_in(2) {
+        need
+    } else {
+        need.saturating_sub(1)
+    };
+    over.wrapping_add(room.wrapping_mul(Store::EVENT))
 }
 
 // A thunk's number: any, or one at the ends of the range.
-fn thunk(g: usize) -> usize {
-    match draw(g, 4) {
+fn thunk(g: Draws) -> u16 {
+    match g.below(4) {
         0 => 0,
         1 => 65_535,
-        _ => draw(next(g), 65_536),
-    }
-}
-
-// The numbers of the operation `what`; the last arm's are a wind's, and nothing's to the rest.
-fn numbers(kind: usize, g: usize, m: &[usize; SPACE], what: u8) -> Op {
-    let g2 = next(g);
-    let g3 = next(g2);
-    let x = if kind == SAME {
-        0
-    } else {
-        near(kind, g2, head(m, VARS))
-    };
-    let a = environment(kind, g3, m);
-    match what {
-        b'b' | b's' => made_op(what, x, bits(g3)),
-        b'l' => made_op(what, x, 0),
-        b'g' | b'i' => made_op(what, a, 0),
-        b'p' => made_op(what, a, x),
-        b'f' => far_op(g2, a, environment(kind, next(g3), m)),
-        _ => made_op(what, thunk(g2), thunk(next(g3))),
-    }
-}
-
-pub(crate) fn made_op(what: u8, one: usize, two: usize) -> Op {
-    Op {
-        what,
-        one,
-        two,
-        trace: 0,
+        _ => short(g.next().below(65_536)),
     }
 }
 
 // How far a is from itself, from the top either way, or from b.
-fn far_op(g: usize, a: usize, b: usize) -> Op {
-    match draw(g, 8) {
-        0 => made_op(b'f', a, a),
-        1 => made_op(b'f', 0, a),
-        2 => made_op(b'f', a, 0),
-        _ => made_op(b'f', a, b),
+fn far(g: Draws, a: u32, b: u32) -> Call {
+    match g.below(8) {
+        0 => Call::Far { from: a, to: a },
+        1 => Call::Far { from: 0, to: a },
+        2 => Call::Far { from: a, to: 0 },
+        _ => Call::Far { from: a, to: b },
     }
 }
 
-// The next operation.
-pub(crate) fn operation(kind: usize, g: usize, m: &[usize; SPACE]) -> Op {
-    let letter = what(kind, g, m);
-    let mut o = numbers(kind, next(g), m, letter);
-    let events = match letter {
-        b'w' => 1,
-        b'g' => events_to(m, o.one),
-        b'k' => events_to(m, up(m, head(m, FOCUS))),
-        _ => 0,
-    };
-    o.trace = trace(kind, later(g), events);
-    o
+impl Source<'_> {
+    // An environment: any, or, for jumps, one as far off as half of them.
+    fn environment(self, g: Draws) -> u32 {
+        let made = self.m.made();
+        if self.kind == Kind::Jumps && g.next().once_in(2) {
+            let far = usize::from(self.m.focus).wrapping_add(made / 2);
+            return word(far.checked_rem(made.wrapping_add(1)).unwrap_or(0));
+        }
+        near(self.kind, g, made)
+    }
+
+    fn variable(self, g: Draws) -> u32 {
+        if self.kind == Kind::Same {
+            return 0;
+        }
+        near(self.kind, g, self.m.vars())
+    }
+
+    // The call of a turn, with its numbers.
+    fn call(self, turn: Turn) -> Option<Call> {
+        let g2 = self.g.later();
+        let g3 = g2.next();
+        let variable = self.variable(g2);
+        let node = self.environment(g3);
+        Some(match turn {
+            Turn::Bind => Call::Bind {
+                variable,
+                value: value(g3),
+            },
+            Turn::Set => Call::Set {
+                variable,
+                value: value(g3),
+            },
+            Turn::Wind => Call::Wind {
+                prelude: thunk(g2),
+                postlude: thunk(g3.next()),
+            },
+            Turn::Look => Call::Look { variable },
+            Turn::Goto => Call::Goto { node },
+            Turn::Begin => Call::Begin { target: node },
+            Turn::Peek => Call::Peek { node, variable },
+            Turn::Far => far(g2, node, self.environment(g3.next())),
+            Turn::Here => Call::Here,
+            Turn::Back => Call::Back,
+            Turn::Step => Call::Step,
+            Turn::Drop => Call::Drop,
+            Turn::Damage | Turn::Hollow | Turn::Open | Turn::Cut => return None,
+        })
+    }
+
+    // The operation of a turn, if it is a call.
+    pub(crate) fn operation(self, turn: Turn) -> Result<Option<Op>, AllocError> {
+        let Some(call) = self.call(turn) else {
+            return Ok(None);
+        };
+        let events = match call {
+            Call::Wind { .. } => 1,
+            Call::Goto { node } => events_to(self.m, node)?,
+            Call::Back => events_to(self.m, u32::from(self.m.parent(self.m.focus)))?,
+            _ => 0,
+        };
+        let trace = trace(self.kind, self.g.later(), events);
+        Ok(Some(Op { call, trace }))
+    }
 }
 
 // ---- what is opened
-
-// Top cells for v variables; some are unbound.
-pub(crate) fn draw_tops(kind: usize, seed: usize, v: usize, b: &mut [u8]) {
-    let odds = if kind == NONE { 2 } else { 6 };
-    let mut g = seed;
-    let mut x = 0;
-    while x < v {
-        put_top(g, odds, x, b);
-        g = next(next(g));
-        x += 1;
-    }
-}
-
-fn put_top(g: usize, odds: usize, x: usize, b: &mut [u8]) {
-    let at = place(0, Store::BARE, x);
-    let v = if once_in(next(g), odds) {
-        UNBOUND
-    } else {
-        bits(g)
-    };
-    put_cell(b, at, plus(at, 1), v);
-}
-
-// A number of variables or of environments, on both sides of the edges.
-fn count_near(g: usize, most: usize) -> usize {
-    match draw(g, 10) {
-        0 => 0,
-        1 => most,
-        2 => plus(most, 1),
-        3 => 65_537,
-        4 => 4_294_967_295,
-        _ => plus(1, draw(next(g), 4)),
-    }
-}
-
-// The bytes of top cells for v variables; now and then one too many or too few.
-fn tops_len(g: usize, v: usize) -> usize {
-    let len = place(0, Store::BARE, v);
-    if once_in(g, 8) {
-        return plus(len, 1);
-    }
-    if once_in(next(g), 8) && 0 < len {
-        return len - 1;
-    }
-    len
-}
 
 // An opening: V, N and the bytes of top cells; how these are drawn, and whether a byte of them may be another.
 #[derive(Clone, Copy)]
@@ -345,89 +424,127 @@ pub(crate) struct Opening {
     pub vars: usize,
     pub nodes: usize,
     pub len: usize,
-    pub kind: usize,
-    pub state: usize,
+    pub kind: Kind,
+    pub state: Draws,
     pub again: bool,
 }
 
-// The generator's state two draws later.
-pub(crate) fn later(g: usize) -> usize {
-    next(next(g))
-}
-
-pub(crate) fn first_opening(p: Plan, g: usize) -> Opening {
-    Opening {
-        vars: p.vars,
-        nodes: p.nodes,
-        len: place(0, Store::BARE, p.vars),
-        kind: p.kind,
-        state: g,
-        again: false,
+impl fmt::Display for Opening {
+    fn fmt<W: fmt::Write>(&self, f: &mut fmt::Formatter<W>) -> fmt::Result {
+        write!(
+            f,
+            "open: vars={} nodes={} bytes of top cells={}",
+            self.vars, self.nodes, self.len
+        )
     }
 }
 
-pub(crate) fn some_opening(g: usize) -> Opening {
-    let vars = count_near(g, Store::VARS);
-    let state = later(later(g));
-    Opening {
-        vars,
-        nodes: count_near(later(g), Store::NODES),
-        len: tops_len(state, vars % 300),
-        kind: EDGES,
-        state,
-        again: true,
+// A number of variables or of environments, on both sides of the edges.
+fn count_near(g: Draws, most: usize) -> usize {
+    match g.below(10) {
+        0 => 0,
+        1 => most,
+        2 => most.wrapping_add(1),
+        3 => 65_537,
+        4 => 4_294_967_295,
+        _ => g.next().up_to(4),
     }
 }
 
-// The top cells of an opening; where it opens again, now and then a byte of them is another.
-pub(crate) fn tops(o: Opening, b: &mut [u8]) {
-    let v = o.vars % 258;
-    let g = next(o.state);
-    draw_tops(o.kind, o.state, v, b);
-    if o.again && once_in(g, 4) {
-        poke(
-            b,
-            draw(next(g), place(0, Store::BARE, v)),
-            draw(later(g), 3),
-        );
+// The bytes of top cells for so many variables; now and then one too many or too few.
+fn tops_len(g: Draws, vars: usize) -> usize {
+    let len = Store::BARE.wrapping_mul(vars);
+    if g.once_in(8) {
+        return len.wrapping_add(1);
+    }
+    if g.next().once_in(8) {
+        return len.saturating_sub(1);
+    }
+    len
+}
+
+// Most bytes of top cells that are drawn.
+const TOPS: usize = 1_500;
+
+impl Opening {
+    pub(crate) fn first(p: Plan, g: Draws) -> Opening {
+        Opening {
+            vars: p.vars,
+            nodes: p.nodes,
+            len: Store::BARE.wrapping_mul(p.vars),
+            kind: p.kind,
+            state: g,
+            again: false,
+        }
+    }
+
+    pub(crate) fn again(g: Draws) -> Opening {
+        let vars = count_near(g, Store::VARS);
+        let state = g.later().later();
+        Opening {
+            vars,
+            nodes: count_near(g.later(), Store::NODES),
+            len: tops_len(state, vars % 300),
+            kind: Kind::Edges,
+            state,
+            again: true,
+        }
+    }
+
+    // Its top cells; some are unbound. Where it opens again, now and then a byte of them is another.
+    pub(crate) fn tops(self, alloc: Global) -> Result<Vec<u8>, AllocError> {
+        let vars = self.vars % 258;
+        let odds = if self.kind == Kind::Unbound { 2 } else { 6 };
+        let mut tops = vec![in alloc; 0u8; TOPS]?;
+        let mut g = self.state;
+        for x in 0..vars {
+            let unbound = g.next().once_in(odds);
+            let value = if unbound { None } else { Some(value(g)) };
+            put(
+                tops.as_mut_slice(),
+                Store::BARE.wrapping_mul(x),
+                &cell(value),
+            );
+            g = g.later();
+        }
+        let g = self.state.next();
+        if self.again && g.once_in(4) {
+            let at = g.next().below(Store::BARE.wrapping_mul(vars));
+            let other = short(g.later().below(3)).to_le_bytes();
+            put(tops.as_mut_slice(), at, &other[..1]);
+        }
+        tops.truncate(self.len);
+        Ok(tops)
     }
 }
+
+// ---- damage
 
 // Where a store of this size is damaged: a third of the time in its header.
-pub(crate) fn hit(g: usize, size: usize) -> usize {
-    if once_in(g, 3) {
-        return draw(next(g), Store::HEADER);
+pub(crate) fn hit(g: Draws, size: usize) -> usize {
+    if g.once_in(3) {
+        return g.next().below(Store::HEADER);
     }
-    draw(next(g), size)
+    g.next().below(size)
 }
 
 // What is added to a byte to damage it; never 0.
-pub(crate) fn blow(g: usize) -> usize {
-    match draw(g, 6) {
+pub(crate) fn blow(g: Draws) -> u8 {
+    match g.below(6) {
         0 | 1 => 1,
         2 => 255,
         3 => 2,
         4 => 254,
-        _ => plus(1, draw(next(g), 255)),
+        _ => u8::try_from(g.next().up_to(255)).unwrap_or(u8::MAX),
     }
-}
-
-// Which of n environments or variables loses its value.
-pub(crate) fn which(g: usize, n: usize) -> usize {
-    draw(next(g), n)
 }
 
 // How much of a store of this size is lent: all, all but one byte, or any part.
-pub(crate) fn cut_len(g: usize, size: usize) -> usize {
-    match draw(next(g), 4) {
+pub(crate) fn cut_len(g: Draws, size: usize) -> usize {
+    match g.next().below(4) {
         0 => size,
-        1 => draw(next(next(g)), size),
-        2 => draw(next(next(g)), Store::HEADER + 1),
-        _ => std::num::wrapping_sub_usize(size, 1),
+        1 => g.later().below(size),
+        2 => g.later().below(Store::HEADER + 1),
+        _ => size.saturating_sub(1),
     }
-}
-
-// Some number from `low` on, before `end` where there is one.
-pub(crate) fn between(g: usize, low: usize, end: usize) -> usize {
-    plus(low, draw(g, std::num::wrapping_sub_usize(end, low)))
 }

@@ -2,14 +2,19 @@
 // compares all that can be seen. It writes counts, or, at the first disagreement, the sequence.
 #![tactic(auto)]
 
+mod answers;
 mod ask;
+mod bench;
 mod beside;
 mod buffer;
+mod calls;
 mod compare;
+mod counts;
 mod damage;
 mod depths;
 mod doors;
 mod draw;
+mod found;
 mod image;
 mod model;
 mod parents;
@@ -17,41 +22,34 @@ mod run;
 mod say;
 mod walk;
 
+use crate::bench::Bench;
+use crate::found::Found;
 use crate::say::Loud;
-use std::io::Stdout;
+use std::alloc::AllocError;
 
 // Seeds are 1 to this number.
 const SEQUENCES: usize = 12_000;
 
 // Runs all sequences; at the first disagreement the sequence runs once more, with its operations written.
-fn all(out: Stdout, m: &mut [usize; model::SPACE]) -> bool {
-    let quiet = Loud { out, on: false };
-    let mut seed = 1;
-    while seed <= SEQUENCES {
-        if run::sequence(quiet, seed, m) != 0 {
-            say::found(out, run::sequence(Loud { out, on: true }, seed, m));
-            return false;
+fn all(bench: &mut Bench) -> Result<(), Found> {
+    for seed in 1..=SEQUENCES {
+        if bench.sequence(seed).is_err() {
+            bench.loud.on = true;
+            return bench.sequence(seed);
         }
-        seed += 1;
     }
-    true
+    Ok(())
 }
 
-// The counts from one number on, before another.
-fn counts(out: Stdout, m: &[usize; model::SPACE], from: usize, end: usize) {
-    let mut i = from;
-    while i < end {
-        say::row(out, i, model::of(m, model::COUNTED, i), 0, 0);
-        i += 1;
+fn main(rt: HostRuntime) -> Result<(), AllocError> {
+    let loud = Loud {
+        out: rt.stdout(),
+        on: false,
+    };
+    let mut bench = Bench::new(rt.alloc(), loud)?;
+    match all(&mut bench) {
+        Ok(()) => loud.write(bench.counts),
+        Err(found) => loud.write(format_args!("{found}\n")),
     }
-}
-
-fn main(rt: HostRuntime) {
-    let out = rt.stdout();
-    let mut m = [0usize; model::SPACE];
-    if all(out, &mut m) {
-        counts(out, &m, compare::SEQUENCES, compare::VALUES);
-        counts(out, &m, 1, compare::SEQUENCES);
-        counts(out, &m, compare::VALUES, model::COUNTS);
-    }
+    Ok(())
 }

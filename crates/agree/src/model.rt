@@ -1,620 +1,406 @@
 // The second opinion: deep binding as TR397's Figure 2 has it, no cells and no modes. A value is found by climbing from an
 // environment to the nearest binding; what a switch moves and tells is found by comparing two paths to the top.
 ghost use Rattle.std.specs.Prelude.{◌-◌, ◌≤◌};
+ghost use Rattle.std.specs.Iterator.{at_most};
 
-use crate::buffer::{byte, less, number32, plus, poke, spell32};
+use crate::answers::{Done, Event, Refusal, Stop, Told, Way};
+use crate::buffer::short;
+use crate::calls::Call;
 use layout::Store;
+use std::alloc::{AllocError, Global};
 
-// One array has all numbers that the program keeps, a field after the other. The model: of each environment its kind, parent,
-// variable or prelude, postlude, own value and depth; then the top values; then V, N, made, the focus and the walk's two. After it,
-// what is compared with: a mark for each environment, the newest mark, the counts, the bytes that were lent; and of the walk that
-// is made beside a goto what is left of it, the goto's bytes and its trace.
-pub(crate) const KIND: usize = 0;
-
-pub(crate) const PARENT: usize = Store::NODES;
-
-pub(crate) const GIVEN: usize = 2 * Store::NODES;
-
-pub(crate) const POST: usize = 3 * Store::NODES;
-
-pub(crate) const OWN: usize = 4 * Store::NODES;
-
-pub(crate) const DEPTH: usize = 5 * Store::NODES;
-
-pub(crate) const TOP: usize = 6 * Store::NODES;
-
-const HEAD: usize = 6 * Store::NODES + Store::VARS;
-
-pub(crate) const MARK: usize = HEAD + 6;
-
-pub(crate) const NEWEST: usize = MARK + Store::NODES;
-
-pub(crate) const COUNTED: usize = NEWEST + 1;
-
-pub(crate) const COUNTS: usize = 39;
-
-pub(crate) const LENT: usize = COUNTED + COUNTS;
-
-// The most bytes that a store has, and some after it.
-pub(crate) const LARGEST: usize = Store::HEADER
-    + Store::CELL * Store::VARS
-    + Store::NODE * Store::NODES
-    + 64;
-
-pub(crate) const BESIDE: usize = LENT + LARGEST;
-
-pub(crate) const GONE: usize = BESIDE + 3;
-
-pub(crate) const TOLD: usize = GONE + LARGEST;
-
-pub(crate) const SPACE: usize = TOLD + Store::EVENT * Store::NODES;
-
-// Places in the head, in the order of a store's header.
-pub(crate) const VARS: usize = 0;
-
-pub(crate) const ROOM: usize = 1;
-
-pub(crate) const MADE: usize = 2;
-
-pub(crate) const FOCUS: usize = 3;
-
-pub(crate) const TARGET: usize = 4;
-
-pub(crate) const HANDED: usize = 5;
-
-// Kinds; the top has none of them.
-pub(crate) const BINDING: usize = 1;
-
-pub(crate) const WIND: usize = 2;
-
-// A value is its 32 bits; this mark stands for none.
-pub(crate) const UNBOUND: usize = 4_294_967_296;
-
-// No environment has this number: there is no decider to tell.
-pub(crate) const NO_ONE: usize = 65_536;
-
-// What a call answers: its number, the answer, moves and events, of a value the decider, and of a step its event: 0 leaving or 1
-// entering, and the thunk.
-#[derive(Clone, Copy)]
-pub(crate) struct Says {
-    pub code: usize,
-    pub out: usize,
-    pub moves: usize,
-    pub events: usize,
-    pub by: usize,
-    pub event: usize,
-    pub thunk: usize,
+#[derive(Clone, Copy, Debug, PartialEq, Eq)]
+pub(crate) enum Kind {
+    Top,
+    Binding { variable: u16, own: Option<i32> },
+    Wind { prelude: u16, postlude: u16 },
 }
 
-pub(crate) fn answered(code: usize, out: usize, moves: usize, events: usize) -> Says {
-    Says {
-        code,
-        out,
-        moves,
-        events,
-        by: NO_ONE,
-        event: 0,
-        thunk: 0,
-    }
-}
-
-pub(crate) fn refused(code: usize) -> Says {
-    answered(code, 0, 0, 0)
-}
-
-pub(crate) fn done(out: usize) -> Says {
-    answered(0, out, 0, 0)
-}
-
-// What an environment is, in an answer's places: its own value; its kind, parent and first number for moves, events and decider;
-// whether it has a value, and its second number, for a step's event and thunk.
-fn environment(
-    code: usize,
-    kind: usize,
-    parent: usize,
-    first: usize,
-    second: usize,
-    own: usize,
-) -> Says {
-    let bound = own != UNBOUND;
-    Says {
-        code,
-        out: if bound { own } else { 0 },
-        moves: kind,
-        events: parent,
-        by: first,
-        event: if bound { 1 } else { 0 },
-        thunk: second,
-    }
-}
-
-pub(crate) fn untold(code: usize) -> Says {
-    environment(code, 0, 0, 0, 0, UNBOUND)
-}
-
-// ---- the array
-
-pub(crate) fn of(m: &[usize; SPACE], field: usize, n: usize) -> usize {
-    let k = plus(field, n);
-    if k < SPACE { m[k] } else { 0 }
-}
-
-pub(crate) fn put(m: &mut [usize; SPACE], field: usize, n: usize, v: usize) {
-    let k = plus(field, n);
-    if k < SPACE {
-        m[k] = v;
-    }
-}
-
-pub(crate) fn head(m: &[usize; SPACE], place: usize) -> usize {
-    of(m, HEAD, place)
-}
-
-pub(crate) fn put_head(m: &mut [usize; SPACE], place: usize, v: usize) {
-    put(m, HEAD, place, v);
-}
-
-pub(crate) fn put_walk(m: &mut [usize; SPACE], target: usize, handed: usize) {
-    put_head(m, TARGET, target);
-    put_head(m, HANDED, handed);
-}
-
-// All but the walk's. No goto stands beside it.
-pub(crate) fn put_heads(m: &mut [usize; SPACE], v: usize, n: usize, made: usize, focus: usize) {
-    put(m, BESIDE, 0, 0);
-    put_head(m, VARS, v);
-    put_head(m, ROOM, n);
-    put_head(m, MADE, made);
-    put_head(m, FOCUS, focus);
-}
-
-// The parent, which has a smaller number.
-pub(crate) fn up(m: &[usize; SPACE], n: usize) -> usize
-    ensures { result ≤ n - 1 }
-{
-    let p = of(m, PARENT, n);
-    if p < n { p } else { 0 }
-}
-
-// An environment other than the top.
-#[derive(Clone, Copy)]
+#[derive(Clone, Copy, Debug, PartialEq, Eq)]
 pub(crate) struct Node {
-    pub kind: usize,
-    pub parent: usize,
-    pub given: usize,
-    pub post: usize,
-    pub own: usize,
+    pub parent: u16,
+    pub depth: u16,
+    pub kind: Kind,
 }
 
-// It is one deeper than its parent; the top's depth is 0.
-pub(crate) fn put_node(m: &mut [usize; SPACE], n: usize, e: Node) {
-    let above = of(m, DEPTH, e.parent);
-    put(m, KIND, n, e.kind);
-    put(m, PARENT, n, e.parent);
-    put(m, GIVEN, n, e.given);
-    put(m, POST, n, e.post);
-    put(m, OWN, n, e.own);
-    put(m, DEPTH, n, plus(above, 1));
-}
-
-// ---- values
-
-fn binds(m: &[usize; SPACE], n: usize, x: usize) -> bool {
-    if of(m, KIND, n) == BINDING {
-        of(m, GIVEN, n) == x
-    } else {
-        false
-    }
-}
-
-// The nearest node from a up that binds x, else 0: the top.
-fn decider(m: &[usize; SPACE], a: usize, x: usize) -> usize {
-    let mut n = a;
-    while 0 < n {
-        if binds(m, n, x) {
-            return n;
-        }
-        n = up(m, n);
-    }
-    0
-}
-
-// Where the array has the own value of the decider d of x.
-fn own_at(d: usize, x: usize) -> usize {
-    match d {
-        0 => plus(TOP, x),
-        _ => plus(OWN, d),
-    }
-}
-
-// The value of x at a, or that there is none.
-pub(crate) fn value(m: &[usize; SPACE], a: usize, x: usize) -> usize {
-    of(m, own_at(decider(m, a, x), x), 0)
-}
-
-// ---- paths
-
-fn item(p: &[usize; Store::NODES], k: usize) -> usize {
-    if k < Store::NODES { p[k] } else { 0 }
-}
-
-fn note_item(p: &mut [usize; Store::NODES], k: usize, n: usize) {
-    if k < Store::NODES {
-        p[k] = n;
-    }
-}
-
-// The path from a to the top, the top left out: how many nodes.
-pub(crate) fn path(m: &[usize; SPACE], a: usize, p: &mut [usize; Store::NODES]) -> usize {
-    let mut k = 0;
-    let mut n = a;
-    while 0 < n {
-        note_item(p, k, n);
-        k = plus(k, 1);
-        n = up(m, n);
-    }
-    k
-}
-
-// Whether the two paths have the same node k places below the top.
-fn same_below(
-    p: &[usize; Store::NODES],
-    np: usize,
-    q: &[usize; Store::NODES],
-    nq: usize,
-    k: usize,
-) -> bool {
-    if nq <= k {
-        return false;
-    }
-    item(p, less(less(np, k), 1)) == item(q, less(less(nq, k), 1))
-}
-
-// How many nodes the two paths have in common: their ends at the top.
-fn shared(p: &[usize; Store::NODES], np: usize, q: &[usize; Store::NODES], nq: usize) -> usize {
-    let mut k = 0;
-    while k < np {
-        if !same_below(p, np, q, nq, k) {
-            return k;
-        }
-        k += 1;
-    }
-    k
-}
-
-// ---- events
-
-// The event number e: 0 leaving or 1 entering, the thunk, the place.
-fn note(notes: &mut [u8], e: usize, way: usize, thunk: usize, place: usize) {
-    let at = Store::EVENT * (e % Store::NODES);
-    poke(notes, at, way);
-    spell32(notes, plus(at, 1), plus(thunk, 65_536 * (place % 65_536)));
-}
-
-// Leaving n (way 0) or entering it (way 1), told if it is a wind: the events so far. The place is the wind's parent.
-fn tell(m: &[usize; SPACE], n: usize, way: usize, notes: &mut [u8], e: usize) -> usize {
-    if of(m, KIND, n) != WIND {
-        return e;
-    }
-    let thunk = match way {
-        0 => of(m, POST, n),
-        _ => of(m, GIVEN, n),
+impl Node {
+    pub(crate) const TOP: Node = Node {
+        parent: 0,
+        depth: 0,
+        kind: Kind::Top,
     };
-    note(notes, e, way, thunk, of(m, PARENT, n));
-    plus(e, 1)
 }
 
-// How many nodes a switch leaves, and how many moves it makes.
-#[derive(Clone, Copy)]
-pub(crate) struct Route {
-    pub left: usize,
-    pub moves: usize,
+// A walk's target, and the wind that was handed over and is to be entered.
+#[derive(Clone, Copy, Debug, PartialEq, Eq)]
+pub(crate) struct Walk {
+    pub target: u16,
+    pub handed: Option<u16>,
 }
 
-// A node, and whether it is left (way 0) or entered (way 1).
-#[derive(Clone, Copy)]
-pub(crate) struct Move {
-    pub node: usize,
-    pub way: usize,
+// The environments, the top first, and how many are made; the top values; N; the focus; and of a walk its two. A blank keeps the
+// environment that last had its number: what is drawn for a number that is not made goes by that.
+#[derive(Drop)]
+pub(crate) struct Model {
+    pub alloc: Global,
+    pub nodes: Vec<Node>,
+    pub made: u16,
+    pub tops: Vec<Option<i32>>,
+    pub room: u16,
+    pub focus: u16,
+    pub walk: Option<Walk>,
 }
 
-// The move number k of a switch that leaves the first nodes of p and enters the first of q, the outer ones first.
-pub(crate) fn move_at(
-    p: &[usize; Store::NODES],
-    q: &[usize; Store::NODES],
-    w: Route,
-    k: usize,
-) -> Move {
-    if k < w.left {
-        return Move {
-            node: item(p, k),
-            way: 0,
-        };
-    }
-    Move {
-        node: item(q, less(less(w.moves, k), 1)),
-        way: 1,
-    }
-}
-
-// All events of a switch: how many.
-fn tell_all(
-    m: &[usize; SPACE],
-    p: &[usize; Store::NODES],
-    q: &[usize; Store::NODES],
-    w: Route,
-    notes: &mut [u8],
-) -> usize {
-    let end = w.moves;
-    let mut e = 0;
-    let mut k = 0;
-    while k < end {
-        let step = move_at(p, q, w, k);
-        e = tell(m, step.node, step.way, notes, e);
-        k += 1;
-    }
-    e
-}
-
-// What two paths have not in common: all of one is left, all of the other is entered.
-pub(crate) fn apart(
-    p: &[usize; Store::NODES],
-    np: usize,
-    q: &[usize; Store::NODES],
-    nq: usize,
-) -> Route {
-    let k = shared(p, np, q, nq);
-    let left = less(np, k);
-    Route {
-        left,
-        moves: plus(left, less(nq, k)),
-    }
-}
-
-// The answer of a switch from a to b, where there is room for its events.
-fn between(m: &[usize; SPACE], a: usize, b: usize, notes: &mut [u8]) -> Says {
-    let mut p = [0usize; Store::NODES];
-    let mut q = [0usize; Store::NODES];
-    let np = path(m, a, &mut p);
-    let nq = path(m, b, &mut q);
-    let w = apart(&p, np, &q, nq);
-    let events = tell_all(m, &p, &q, w, notes);
-    answered(0, b, w.moves, events)
-}
-
-// The answer of a switch to a.
-pub(crate) fn way(m: &[usize; SPACE], a: usize, room: usize, notes: &mut [u8]) -> Says {
-    let r = between(m, head(m, FOCUS), a, notes);
-    if room < r.events {
-        return refused(7);
-    }
-    r
-}
-
-// ---- bytes
-
-fn proper(b: &[u8], at: usize) -> bool {
-    match byte(b, at) {
-        0 => number32(b, plus(at, 1)) == 0,
-        1 => true,
-        _ => false,
-    }
-}
-
-// The cell at `at`: its bits, or that it has none.
-pub(crate) fn cell(b: &[u8], at: usize, state: usize) -> usize {
-    if byte(b, state) == 1 {
-        number32(b, at)
-    } else {
-        UNBOUND
-    }
-}
-
-// A place in a row of records.
-pub(crate) fn place(start: usize, size: usize, n: usize) -> usize {
-    plus(start, (size % 256) * (n % 65_536))
-}
-
-pub(crate) fn size_of(v: usize, n: usize) -> usize {
-    plus(
-        place(Store::HEADER, Store::CELL, v),
-        place(0, Store::NODE, n),
-    )
-}
-
-// The size of the model's store.
-pub(crate) fn size(m: &[usize; SPACE]) -> usize {
-    size_of(head(m, VARS), head(m, ROOM))
-}
-
-fn up_to(n: usize, most: usize) -> bool {
-    if 0 < n { n <= most } else { false }
+// The size of a store with so many variables and environments.
+pub(crate) fn size_of(vars: u16, nodes: u16) -> usize {
+    Store::HEADER + Store::CELL * usize::from(vars) + Store::NODE * usize::from(nodes)
 }
 
 // Whether V and N are in range and a buffer of this length is enough.
-pub(crate) fn fits(v: usize, n: usize, len: usize) -> bool {
-    if !up_to(v, Store::VARS) {
-        return false;
-    }
-    if !up_to(n, Store::NODES) {
-        return false;
-    }
-    size_of(v, n) <= len
+pub(crate) fn fits(vars: u16, nodes: u16, len: usize) -> bool {
+    (1..=Store::VARS).contains(&usize::from(vars))
+        && (1..=Store::NODES).contains(&usize::from(nodes))
+        && size_of(vars, nodes) <= len
 }
 
-// Whether the first v cells are proper.
-fn tops_proper(v: usize, tops: &[u8]) -> bool {
-    let mut x = 0;
-    while x < v {
-        if !proper(tops, place(0, Store::BARE, x)) {
-            return false;
+// The environments from one up, the top left out.
+#[derive(Drop)]
+pub(crate) struct Climb<'a> {
+    model: &'a Model,
+    at: u16,
+}
+
+impl<'a> Iterator for Climb<'a> {
+    type Item = u16;
+
+    ghost remaining = { λ s. at_most s.at };
+
+    fn next(&mut self) -> Option<u16> {
+        if self.at == 0 {
+            return None;
         }
-        x += 1;
-    }
-    true
-}
-
-// The top values: v cells from `start` on.
-pub(crate) fn take_tops(m: &mut [usize; SPACE], v: usize, b: &[u8], start: usize) {
-    let mut x = 0;
-    while x < v {
-        let at = place(start, Store::BARE, x);
-        put(m, TOP, x, cell(b, plus(at, 1), at));
-        x += 1;
+        let n = self.at;
+        self.at = self.model.parent(n);
+        Some(n)
     }
 }
 
-// ---- the calls: what each answers, and what is then another
-
-fn openable(v: usize, n: usize, tops: &[u8], len: usize) -> bool {
-    if !fits(v, n, len) {
-        return false;
-    }
-    if tops.len() != place(0, Store::BARE, v) {
-        return false;
-    }
-    tops_proper(v, tops)
+// An environment is left or entered.
+#[derive(Clone, Copy, Debug, PartialEq, Eq)]
+pub(crate) struct Move {
+    pub way: Way,
+    pub node: u16,
 }
 
-pub(crate) fn open(m: &mut [usize; SPACE], v: usize, n: usize, tops: &[u8], len: usize) -> Says {
-    if !openable(v, n, tops, len) {
-        return refused(1);
+impl Model {
+    // No store yet.
+    pub(crate) fn new(alloc: Global) -> Result<Model, AllocError> {
+        Ok(Model {
+            alloc,
+            nodes: vec![in alloc; Node::TOP; Store::NODES]?,
+            made: 1,
+            tops: Vec::new(alloc),
+            room: 1,
+            focus: 0,
+            walk: None,
+        })
     }
-    take_tops(m, v, tops, 0);
-    put_heads(m, v, n, 1, 0);
-    put_walk(m, Store::NONE, Store::NONE);
-    done(0)
-}
 
-pub(crate) fn is_full(m: &[usize; SPACE]) -> bool {
-    head(m, MADE) == head(m, ROOM)
-}
+    pub(crate) fn made(&self) -> usize {
+        usize::from(self.made)
+    }
 
-pub(crate) fn bind(m: &[usize; SPACE], x: usize) -> Says {
-    if head(m, VARS) <= x {
-        return refused(3);
+    pub(crate) fn vars(&self) -> usize {
+        self.tops.len()
     }
-    if is_full(m) {
-        return refused(6);
-    }
-    done(head(m, MADE))
-}
 
-pub(crate) fn wind(m: &[usize; SPACE], p: usize, room: usize, notes: &mut [u8]) -> Says {
-    if is_full(m) {
-        return refused(6);
+    pub(crate) fn size(&self) -> usize {
+        size_of(short(self.vars()), self.room)
     }
-    if room < 1 {
-        return refused(7);
-    }
-    note(notes, 0, 1, p, head(m, FOCUS));
-    answered(0, head(m, MADE), 0, 1)
-}
 
-// A new node, child of the focus, becomes the focus.
-pub(crate) fn grow(m: &mut [usize; SPACE], kind: usize, given: usize, post: usize, own: usize) {
-    let n = head(m, MADE);
-    let parent = head(m, FOCUS);
-    put_node(
-        m,
-        n,
-        Node {
-            kind,
-            parent,
-            given,
-            post,
-            own,
-        },
-    );
-    put_head(m, MADE, plus(n, 1));
-    put_head(m, FOCUS, n);
-}
+    pub(crate) fn is_full(&self) -> bool {
+        self.room <= self.made
+    }
 
-pub(crate) fn peek(m: &[usize; SPACE], a: usize, x: usize) -> Says {
-    if head(m, VARS) <= x {
-        return refused(3);
+    pub(crate) fn node(&self, n: u16) -> Node {
+        self.nodes.get(usize::from(n)).copied().unwrap_or(Node::TOP)
     }
-    if head(m, MADE) <= a {
-        return refused(4);
-    }
-    let v = value(m, a, x);
-    if v == UNBOUND {
-        return refused(5);
-    }
-    Says {
-        code: 0,
-        out: v,
-        moves: 0,
-        events: 0,
-        by: decider(m, a, x),
-        event: 0,
-        thunk: 0,
-    }
-}
 
-// What the environment a is. The top binds nothing.
-pub(crate) fn tell_one(m: &[usize; SPACE], a: usize) -> Says {
-    if head(m, MADE) <= a {
-        return untold(4);
+    // The parent, which has a smaller number.
+    pub(crate) fn parent(&self, n: u16) -> u16
+        ensures { result ≤ n - 1 }
+    {
+        let parent = self.node(n).parent;
+        if parent < n { parent } else { 0 }
     }
-    if a == 0 {
-        return environment(0, 1, 0, 0, 0, UNBOUND);
+
+    // One deeper than its parent.
+    pub(crate) fn put_node(&mut self, n: u16, parent: u16, kind: Kind) {
+        let depth = self.node(parent).depth.wrapping_add(1);
+        if let Some(node) = self.nodes.get_mut(usize::from(n)) {
+            *node = Node {
+                parent,
+                depth,
+                kind,
+            };
+        }
     }
-    let kind = plus(of(m, KIND, a), 1);
-    environment(
-        0,
-        kind,
-        of(m, PARENT, a),
-        of(m, GIVEN, a),
-        of(m, POST, a),
-        of(m, OWN, a),
-    )
-}
 
-pub(crate) fn look(m: &[usize; SPACE], x: usize) -> Says {
-    peek(m, head(m, FOCUS), x)
-}
-
-pub(crate) fn here(m: &[usize; SPACE]) -> Says {
-    done(head(m, FOCUS))
-}
-
-// Set is refused where look is.
-pub(crate) fn set(m: &[usize; SPACE], x: usize) -> Says {
-    let r = look(m, x);
-    let code = r.code;
-    match code {
-        0 => here(m),
-        _ => refused(code),
+    pub(crate) fn climb(&self, n: u16) -> Climb<'_> {
+        Climb { model: self, at: n }
     }
-}
 
-// The value of x at the focus.
-pub(crate) fn put_value(m: &mut [usize; SPACE], x: usize, v: usize) {
-    let at = own_at(decider(m, head(m, FOCUS), x), x);
-    put(m, at, 0, v);
-}
+    // ---- values
 
-pub(crate) fn goto(m: &[usize; SPACE], a: usize, room: usize, notes: &mut [u8]) -> Says {
-    if head(m, MADE) <= a {
-        return refused(4);
+    fn binds(&self, n: u16, x: u16) -> bool {
+        matches!(self.node(n).kind, Kind::Binding { variable, .. } if variable == x)
     }
-    way(m, a, room, notes)
-}
 
-pub(crate) fn back(m: &[usize; SPACE], room: usize, notes: &mut [u8]) -> Says {
-    let f = head(m, FOCUS);
-    if f == 0 {
-        return refused(8);
+    // The nearest node from a up that binds x, else 0: the top.
+    fn decider(&self, a: u16, x: u16) -> u16 {
+        self.climb(a).find(|n| self.binds(*n, x)).unwrap_or(0)
     }
-    way(m, up(m, f), room, notes)
-}
 
-// As many nodes as are on one path and not on the other. What is told on the way is not asked.
-pub(crate) fn far(m: &[usize; SPACE], a: usize, b: usize, notes: &mut [u8]) -> Says {
-    let made = head(m, MADE);
-    if made <= a || made <= b {
-        return refused(4);
+    pub(crate) fn value(&self, a: u16, x: u16) -> Option<i32> {
+        match self.node(self.decider(a, x)).kind {
+            Kind::Binding { own, .. } => own,
+            _ => self.tops.get(usize::from(x)).copied().unwrap_or(None),
+        }
     }
-    done(between(m, a, b, notes).moves)
+
+    // The value of x at the focus.
+    fn put_value(&mut self, x: u16, value: i32) {
+        let by = self.decider(self.focus, x);
+        if let Some(
+            Node {
+                kind: Kind::Binding { own, .. },
+                ..
+            },
+        ) = self.nodes.get_mut(usize::from(by))
+        {
+            *own = Some(value);
+        } else if let Some(top) = self.tops.get_mut(usize::from(x)) {
+            *top = Some(value);
+        }
+    }
+
+    // ---- switches
+
+    // What a switch from a to b leaves, and then enters, the outer ones first: the nodes that the two paths have not in common.
+    pub(crate) fn moves(&self, a: u16, b: u16) -> Result<Vec<Move>, AllocError> {
+        let from: Vec<u16> = self.climb(a).collect(self.alloc)?;
+        let to: Vec<u16> = self.climb(b).collect(self.alloc)?;
+        let shared = from
+            .iter()
+            .rev()
+            .zip(to.iter().rev())
+            .take_while(|(p, q)| **p == **q)
+            .count();
+        let left = from.len().saturating_sub(shared);
+        let left = from.iter().take(left).map(|n| Move {
+            way: Way::Leaving,
+            node: *n,
+        });
+        let entered = to.iter().rev().skip(shared).map(|n| Move {
+            way: Way::Entering,
+            node: *n,
+        });
+        left.chain(entered).collect(self.alloc)
+    }
+
+    // What a move tells: a wind's leaving or entering.
+    pub(crate) fn event(&self, step: Move) -> Option<Event> {
+        let node = self.node(step.node);
+        let Kind::Wind { prelude, postlude } = node.kind else {
+            return None;
+        };
+        Some(Event {
+            way: step.way,
+            thunk: match step.way {
+                Way::Leaving => postlude,
+                Way::Entering => prelude,
+            },
+            place: node.parent,
+        })
+    }
+
+    pub(crate) fn events(&self, moves: &[Move]) -> Result<Vec<Event>, AllocError> {
+        moves
+            .iter()
+            .filter_map(|step| self.event(*step))
+            .collect(self.alloc)
+    }
+
+    // To a, where there is room for the events, which are then told.
+    fn switch(&mut self, a: u16, room: usize, told: &mut Vec<Event>) -> Result<Done, Stop> {
+        let moves = self.moves(self.focus, a)?;
+        let events = self.events(moves.as_slice())?;
+        if room < events.len() {
+            return Err(Stop::Refused(Refusal::TraceRoom));
+        }
+        told.extend_from_slice(events.as_slice())?;
+        self.focus = a;
+        Ok(Done::Moved {
+            focus: a,
+            moves: short(moves.len()),
+            events: short(events.len()),
+        })
+    }
+
+    // ---- refusals
+
+    fn known(&self, x: u32) -> Result<u16, Refusal> {
+        match u16::try_from(x) {
+            Ok(x) if usize::from(x) < self.vars() => Ok(x),
+            _ => Err(Refusal::NoVariable),
+        }
+    }
+
+    pub(crate) fn made_one(&self, a: u32) -> Result<u16, Refusal> {
+        match u16::try_from(a) {
+            Ok(a) if usize::from(a) < self.made() => Ok(a),
+            _ => Err(Refusal::NoEnvironment),
+        }
+    }
+
+    fn not_full(&self) -> Result<(), Refusal> {
+        if self.is_full() {
+            return Err(Refusal::Full);
+        }
+        Ok(())
+    }
+
+    pub(crate) fn at_rest(&self) -> Result<(), Refusal> {
+        match self.walk {
+            None => Ok(()),
+            Some(_) => Err(Refusal::Walking),
+        }
+    }
+
+    pub(crate) fn in_walk(&self) -> Result<Walk, Refusal> {
+        self.walk.ok_or(Refusal::NotWalking)
+    }
+
+    // ---- the calls: what each answers, and what is then another
+
+    // A new node, child of the focus, becomes the focus.
+    fn grow(&mut self, kind: Kind) -> u16 {
+        let n = self.made;
+        self.put_node(n, self.focus, kind);
+        self.made = n.saturating_add(1);
+        self.focus = n;
+        n
+    }
+
+    fn bind(&mut self, x: u32, value: i32) -> Result<Done, Stop> {
+        self.at_rest()?;
+        let variable = self.known(x)?;
+        self.not_full()?;
+        let own = Some(value);
+        Ok(Done::Number(self.grow(Kind::Binding { variable, own })))
+    }
+
+    fn wind(
+        &mut self,
+        prelude: u16,
+        postlude: u16,
+        room: usize,
+        told: &mut Vec<Event>,
+    ) -> Result<Done, Stop> {
+        self.at_rest()?;
+        self.not_full()?;
+        if room < 1 {
+            return Err(Stop::Refused(Refusal::TraceRoom));
+        }
+        told.push(Event {
+            way: Way::Entering,
+            thunk: prelude,
+            place: self.focus,
+        })?;
+        let focus = self.grow(Kind::Wind { prelude, postlude });
+        Ok(Done::Moved {
+            focus,
+            moves: 0,
+            events: 1,
+        })
+    }
+
+    pub(crate) fn peek(&self, a: u32, x: u32) -> Result<Done, Refusal> {
+        let x = self.known(x)?;
+        let a = self.made_one(a)?;
+        let value = self.value(a, x).ok_or(Refusal::Unbound)?;
+        let by = self.decider(a, x);
+        Ok(Done::Value { value, by })
+    }
+
+    fn look(&self, x: u32) -> Result<Done, Refusal> {
+        self.peek(u32::from(self.focus), x)
+    }
+
+    pub(crate) fn here(&self) -> Done {
+        Done::Number(self.focus)
+    }
+
+    // Set is refused where look is.
+    fn set(&mut self, x: u32, value: i32) -> Result<Done, Stop> {
+        self.look(x)?;
+        let x = self.known(x)?;
+        self.put_value(x, value);
+        Ok(self.here())
+    }
+
+    fn goto(&mut self, a: u32, room: usize, told: &mut Vec<Event>) -> Result<Done, Stop> {
+        self.at_rest()?;
+        let a = self.made_one(a)?;
+        self.switch(a, room, told)
+    }
+
+    fn back(&mut self, room: usize, told: &mut Vec<Event>) -> Result<Done, Stop> {
+        self.at_rest()?;
+        if self.focus == 0 {
+            return Err(Stop::Refused(Refusal::Top));
+        }
+        let parent = self.parent(self.focus);
+        self.switch(parent, room, told)
+    }
+
+    // As many nodes as are on one path and not on the other. What is told on the way is not asked.
+    fn far(&self, a: u32, b: u32) -> Result<Done, Stop> {
+        let a = self.made_one(a)?;
+        let b = self.made_one(b)?;
+        Ok(Done::Number(short(self.moves(a, b)?.len())))
+    }
+
+    // A call with room for so many events; those that are told.
+    pub(crate) fn call(
+        &mut self,
+        c: Call,
+        room: usize,
+        told: &mut Vec<Event>,
+    ) -> Result<Done, Stop> {
+        match c {
+            Call::Bind { variable, value } => self.bind(variable, value),
+            Call::Wind { prelude, postlude } => self.wind(prelude, postlude, room, told),
+            Call::Look { variable } => Ok(self.look(variable)?),
+            Call::Set { variable, value } => self.set(variable, value),
+            Call::Here => Ok(self.here()),
+            Call::Goto { node } => self.goto(node, room, told),
+            Call::Back => self.back(room, told),
+            Call::Peek { node, variable } => Ok(self.peek(node, variable)?),
+            Call::Far { from, to } => self.far(from, to),
+            Call::Begin { target } => self.begin(target),
+            Call::Step => self.step(),
+            Call::Drop => self.drop_walk(),
+        }
+    }
+
+    // What the environment a is. The top binds nothing.
+    pub(crate) fn tell(&self, a: u32) -> Result<Told, Refusal> {
+        let node = self.node(self.made_one(a)?);
+        Ok(match node.kind {
+            Kind::Top => Told::top(),
+            Kind::Binding { variable, own } => Told::binding(node.parent, variable, own),
+            Kind::Wind { prelude, postlude } => Told::wind(node.parent, prelude, postlude),
+        })
+    }
 }

@@ -1,294 +1,217 @@
 // One sequence on the store and on the model, compared after each operation. It grows and jumps, is damaged, opened again and
 // lent too short.
-use crate::buffer::{fill, holds, plus};
-use crate::compare::{
-    DROPPED, DURING, FAR, FAR_NONE, FAR_SAME, FAR_TOP, MANY, SEQUENCES, SIZES, SOME, TRACE,
-    answers, bytes_agree, count, values_agree,
-};
-use crate::draw::{Op, Opening, Plan};
-use crate::model::{LARGEST, LENT, MADE, SPACE, Says};
-use crate::say::Loud;
-use crate::{ask, beside, damage, depths, doors, draw, image, model, parents, say, walk};
+use crate::answers::{Event, Numbers, Refusal};
+use crate::bench::Bench;
+use crate::buffer::{patterned, put, short, word};
+use crate::calls::{Call, Op};
+use crate::compare::{MANY, SOME};
+use crate::counts::Count;
+use crate::damage::{Blow, Field};
+use crate::draw::{Draws, Opening, Plan, Source, Turn};
+use crate::found::Found;
+use crate::model::size_of;
+use crate::{ask, draw};
 use layout::Store;
-
-// No call answers this.
-const NO_ANSWER: usize = 99;
-
-// ---- an operation
-
-// The bytes of trace that are told; a step's event is in its answer.
-fn told(o: Op, r: Says) -> usize {
-    if o.what == b't' {
-        return 0;
-    }
-    model::place(0, Store::EVENT, r.events)
-}
-
-// What differs: the answers, the trace, which is not held, or the walk from goto.
-fn differs(
-    loud: Loud,
-    o: Op,
-    want: Says,
-    got: Says,
-    held: bool,
-    s: &[u8],
-    m: &mut [usize; SPACE],
-) -> usize {
-    let found = answers(loud, want, got, m);
-    if found != 0 {
-        return found;
-    }
-    if !held {
-        return TRACE;
-    }
-    beside::after(o, got, s, m)
-}
-
-// The operation with the trace t.
-fn traced(loud: Loud, o: Op, s: &mut [u8], m: &mut [usize; SPACE], t: &mut [u8]) -> usize {
-    let mut notes = [0u8; Store::EVENT * Store::NODES];
-    fill(t);
-    let want = ask::of_model(o, m, &mut notes);
-    let got = ask::of_store(o, s, t);
-    let held = holds(t, &notes, told(o, want));
-    differs(loud, o, want, got, held, s, m)
-}
-
-// A far is counted by what its two are.
-fn far_at(o: Op, made: usize) -> usize {
-    if made <= o.one || made <= o.two {
-        return FAR_NONE;
-    }
-    if o.one == o.two {
-        return FAR_SAME;
-    }
-    if o.one == 0 || o.two == 0 {
-        return FAR_TOP;
-    }
-    FAR
-}
-
-// Where an operation is counted besides: far, and what comes during a walk; the others where nothing is written.
-fn counted_at(o: Op, m: &[usize; SPACE]) -> usize {
-    let what = o.what;
-    let walking = walk::walking(m);
-    match what {
-        b'f' => far_at(o, model::head(m, MADE)),
-        b'r' => if walking { DROPPED } else { 0 },
-        _ => if walking { DURING } else { 0 },
-    }
-}
-
-// Most bytes of trace that are lent.
-const LONGEST: usize = Store::EVENT * Store::NODES + 32;
-
-fn operate(loud: Loud, o: Op, s: &mut [u8], m: &mut [usize; SPACE]) -> usize {
-    let mut t = [0u8; LONGEST];
-    let len = o.trace;
-    let i = counted_at(o, m);
-    say::operation(loud, o);
-    count(m, i, 1);
-    beside::before(o, s, m);
-    if LONGEST < len {
-        return SIZES;
-    }
-    traced(loud, o, s, m, &mut t[0..len])
-}
-
-// ---- opening, and a store lent too short
-
-// Most bytes of top cells that are drawn.
-const TOPS: usize = Store::BARE * Store::VARS + 64;
-
-// Open. The bytes of s are what is lent.
-fn open(loud: Loud, o: Opening, s: &mut [u8], m: &mut [usize; SPACE]) -> usize {
-    let mut tops = [0u8; TOPS];
-    let len = o.len;
-    say::line(loud, say::OPEN, o.vars, o.nodes, len);
-    image::keep(LENT, s, m);
-    draw::tops(o, &mut tops);
-    if TOPS < len {
-        return SIZES;
-    }
-    let want = model::open(m, o.vars, o.nodes, &tops[0..len], s.len());
-    let got = ask::store_open(o.vars, o.nodes, &tops[0..len], s);
-    answers(loud, want, got, m)
-}
-
-// What here answers of the first `len` bytes; no answer where there are fewer.
-fn here_in(s: &[u8], len: usize) -> Says {
-    if len <= s.len() {
-        ask::store_reads(b'h', 0, 0, &s[0..len])
-    } else {
-        model::refused(NO_ANSWER)
-    }
-}
-
-// What it has to answer: the store is sound exactly where all of it is lent.
-fn here_of(m: &[usize; SPACE], len: usize) -> Says {
-    if len < model::size(m) {
-        model::refused(2)
-    } else {
-        model::here(m)
-    }
-}
-
-// The store lent with its first bytes alone.
-fn cut(loud: Loud, g: usize, s: &[u8], m: &mut [usize; SPACE]) -> usize {
-    let len = draw::cut_len(g, model::size(m));
-    say::line(loud, say::CUT, len, 0, 0);
-    let want = here_of(m, len);
-    answers(loud, want, here_in(s, len), m)
-}
-
-fn step(loud: Loud, kind: usize, g: usize, s: &mut [u8], m: &mut [usize; SPACE]) -> usize {
-    let o = draw::operation(kind, g, m);
-    let what = o.what;
-    match what {
-        b'd' => damage::strike(loud, g, damage::some_blow(g, s, m), s, m),
-        b'u' => damage::hollow(loud, g, s, m),
-        b'o' => open(loud, draw::some_opening(g), s, m),
-        b'c' => cut(loud, g, s, m),
-        _ => operate(loud, o, s, m),
-    }
-}
-
-// ---- a turn, in parts
-
-// Before a step that goes by the bytes, and at first, the Bytes are compared; before another the second run goes Round. Then
-// comes the Step; then the Bytes are compared, then the Values; then nodes are their own Parents, and depths are False. The
-// second run is Equal to the first; after a step by the bytes it is Copied from it. At the end a walk's two numbers become others
-// (X), and the walk makes a sTep. A row for a turn in a larger store, in a small one, for every sixteenth in a larger one, and for
-// the last, which has no step; then the same where the step goes by the bytes, or is the first.
-const PARTS: usize = 12 + parents::WAYS + depths::WAYS;
-
-const ACTS: [u8; 8 * PARTS] = *b"rs......................\
-    rsbv....e...............\
-    rsbvppppe...............\
-    .bevppppffffffffxxtbxxtb\
-    bsb.....c...............\
-    bsbv....c...............\
-    bsbvppppc...............\
-    .bevppppffffffffxxtbxxtb";
+use std::alloc::AllocError;
 
 // The bytes of a small store, and some more.
 const SMALL: usize = 512;
 
-// The row of turn i in a store of this length.
-fn row(i: usize, steps: usize, len: usize) -> usize {
-    if i == steps {
-        return 3;
-    }
-    if len <= SMALL {
-        return 1;
-    }
-    if i % 16 == 0 { 2 } else { 0 }
-}
+// For the draws at a sequence's end: the parts of a turn, and the first of those that make a walk's numbers others.
+const PARTS: usize = 24;
 
-// 4 where the step goes by the bytes, or is the first.
-fn with_bytes(i: usize, what: u8) -> usize {
-    match what {
-        b'd' | b'u' | b'o' => 4,
-        _ => if i == 0 { 4 } else { 0 },
-    }
-}
+const WALK_PARTS: [usize; 2] = [16, 20];
 
-// What the part k of a sequence does.
-fn part(p: Plan, k: usize, g: usize, len: usize, m: &[usize; SPACE]) -> u8 {
-    let i = k / PARTS;
-    let r = plus(
-        row(i, p.steps, len),
-        with_bytes(i, draw::what(p.kind, g, m)),
-    );
-    ACTS[r % 8 * PARTS + k % PARTS]
-}
+impl Bench {
+    // ---- an operation
 
-fn spots(p: Plan, k: usize) -> usize {
-    if k / PARTS == p.steps { MANY } else { SOME }
-}
-
-fn act(
-    loud: Loud,
-    p: Plan,
-    k: usize,
-    g: usize,
-    s: &mut [u8],
-    u: &mut [u8],
-    m: &mut [usize; SPACE],
-) -> usize {
-    match part(p, k, g, s.len(), m) {
-        b'b' => bytes_agree(loud, s, m),
-        b's' => step(loud, p.kind, g, s, m),
-        b'v' => values_agree(loud, g, spots(p, k), s, m),
-        b'p' => parents::own_parent(loud, g, k % parents::WAYS, s, m),
-        b'f' => depths::false_depths(loud, g, k % depths::WAYS, s, m),
-        b'r' => doors::go_round(loud, g, draw::operation(p.kind, g, m), u, m),
-        b'e' => doors::pair_agrees(loud, s, u, m),
-        b'c' => doors::begin(s, u),
-        b'x' => damage::strike(loud, g, damage::of_walk(plus(g, k), k, m), s, m),
-        b't' => operate(loud, draw::made_op(b't', 0, 0), s, m),
-        _ => 0,
-    }
-}
-
-// The generator's state after the part k.
-fn drawn(g: usize, k: usize) -> usize {
-    if k % PARTS == PARTS - 1 {
-        draw::next(draw::later(draw::later(g)))
-    } else {
-        g
-    }
-}
-
-fn all_parts(
-    loud: Loud,
-    p: Plan,
-    seed: usize,
-    s: &mut [u8],
-    u: &mut [u8],
-    m: &mut [usize; SPACE],
-) -> usize {
-    let end = PARTS * (p.steps % 65_536 + 1);
-    let mut g = draw::next(seed);
-    let mut k = 0;
-    while k < end {
-        let found = act(loud, p, k, g, s, u, m);
-        if found != 0 {
-            return found;
+    // A far is counted by what its two are.
+    fn far_counted(&self, from: u32, to: u32) -> Count {
+        let made = self.model.made_one(from).is_ok() && self.model.made_one(to).is_ok();
+        if !made {
+            Count::FarNone
+        } else if from == to {
+            Count::FarSame
+        } else if from == 0 || to == 0 {
+            Count::FarTop
+        } else {
+            Count::Far
         }
-        g = drawn(g, k);
-        k += 1;
     }
-    0
-}
 
-// The sequence in s, and its second run in u.
-fn played(
-    loud: Loud,
-    p: Plan,
-    seed: usize,
-    s: &mut [u8],
-    u: &mut [u8],
-    m: &mut [usize; SPACE],
-) -> usize {
-    count(m, SEQUENCES, 1);
-    fill(s);
-    let found = open(loud, draw::first_opening(p, draw::next(seed)), s, m);
-    if found != 0 {
-        return found;
+    // Where a call is counted besides: far, and what comes during a walk.
+    fn counted(&self, c: Call) -> Option<Count> {
+        let walking = self.model.walk.is_some();
+        match c {
+            Call::Far { from, to } => Some(self.far_counted(from, to)),
+            Call::Drop if walking => Some(Count::Dropped),
+            Call::Drop => None,
+            _ if walking => Some(Count::During),
+            _ => None,
+        }
     }
-    all_parts(loud, p, seed, s, u, m)
-}
 
-// The sequence of this seed.
-pub(crate) fn sequence(loud: Loud, seed: usize, m: &mut [usize; SPACE]) -> usize {
-    let mut s = [0u8; LARGEST];
-    let mut u = [0u8; LARGEST];
-    let p = draw::planned(seed);
-    let len = plus(model::size_of(p.vars, p.nodes), p.slack);
-    say::plan(loud, seed, p);
-    if LARGEST < len {
-        return SIZES;
+    // The trace with these events told.
+    fn wanted_trace(&self, told: &[Event], len: usize) -> Result<Vec<u8>, AllocError> {
+        let mut trace = patterned(self.alloc, len)?;
+        for (i, event) in told.iter().enumerate() {
+            let at = Store::EVENT.wrapping_mul(i);
+            put(trace.as_mut_slice(), at, &event.bytes());
+        }
+        Ok(trace)
     }
-    played(loud, p, seed, &mut s[0..len], &mut u[0..len], m)
+
+    fn operate(&mut self, o: Op) -> Result<(), Found> {
+        self.loud.line(o);
+        if let Some(count) = self.counted(o.call) {
+            self.counts.add(count, 1);
+        }
+        self.before(o.call)?;
+        let mut told = Vec::new(self.alloc);
+        let mut trace = patterned(self.alloc, o.trace)?;
+        let answer = self.model.call(o.call, o.trace / Store::EVENT, &mut told);
+        let want = Numbers::of(answer)?;
+        let got = ask::make(o.call, self.store.as_mut_slice(), trace.as_mut_slice());
+        self.answers(want, got)?;
+        let wanted = self.wanted_trace(told.as_slice(), o.trace)?;
+        if trace.as_slice() != wanted.as_slice() {
+            return Err(Found::Trace);
+        }
+        self.after(o.call, got)
+    }
+
+    // ---- opening, and a store lent too short
+
+    fn open(&mut self, o: Opening) -> Result<(), Found> {
+        self.loud.line(o);
+        self.lent = Vec::from_slice(self.alloc, self.store.as_slice())?;
+        let tops = o.tops(self.alloc)?;
+        let vars = word(o.vars);
+        let nodes = word(o.nodes);
+        let len = self.store.len();
+        let answer = self.model.open(vars, nodes, tops.as_slice(), len);
+        if answer.is_ok() {
+            self.beside = None;
+        }
+        let want = Numbers::of(answer)?;
+        let got = ask::open(vars, nodes, tops.as_slice(), self.store.as_mut_slice());
+        self.answers(want, got)
+    }
+
+    // The store lent with its first bytes alone: it is sound exactly where all of it is lent.
+    fn cut(&mut self, g: Draws) -> Result<(), Found> {
+        let len = draw::cut_len(g, self.model.size());
+        self.loud
+            .line(format_args!("here with the first bytes={len}"));
+        let want = if len < self.model.size() {
+            Numbers::from(Refusal::Damaged)
+        } else {
+            Numbers::from(self.model.here())
+        };
+        let Some(lent) = self.store.as_slice().get(..len) else {
+            return Err(Found::Own);
+        };
+        let got = ask::here(lent);
+        self.answers(want, got)
+    }
+
+    // ---- a turn
+
+    fn act(&mut self, turn: Turn, o: Option<Op>, g: Draws) -> Result<(), Found> {
+        match (turn, o) {
+            (Turn::Damage, _) => self.damage(g),
+            (Turn::Hollow, _) => self.hollow(g),
+            (Turn::Open, _) => self.open(Opening::again(g)),
+            (_, Some(o)) => self.operate(o),
+            (_, None) => self.cut(g),
+        }
+    }
+
+    fn source(&self, p: Plan, g: Draws) -> Source<'_> {
+        Source {
+            kind: p.kind,
+            g,
+            m: &self.model,
+        }
+    }
+
+    // Before a turn that goes by the bytes, and at first, the bytes are compared; before another the second run goes round.
+    fn turn(&mut self, p: Plan, i: usize, g: Draws) -> Result<(), Found> {
+        let source = self.source(p, g);
+        let turn = source.turn();
+        let operation = source.operation(turn)?;
+        if i == 0 || turn.goes_by_bytes() {
+            self.bytes_agree()?;
+        } else if let Some(o) = operation {
+            self.go_round(g, o);
+        }
+        self.act(turn, operation, g)?;
+        self.look_round(p, i, g)
+    }
+
+    // After it: in a small store, and at every sixteenth in a larger one, bytes and values are compared, and the second run with the
+    // first; in a larger one nodes are their own parents. After a turn by the bytes the second run is copied from the first. What a turn
+    // goes by is drawn anew here, where a walk may have begun or ended.
+    fn look_round(&mut self, p: Plan, i: usize, g: Draws) -> Result<(), Found> {
+        let by_bytes = i == 0 || self.source(p, g).turn().goes_by_bytes();
+        let small = self.store.len() <= SMALL;
+        let whole = small || i % 16 == 0;
+        if whole || by_bytes {
+            self.bytes_agree()?;
+        }
+        if whole {
+            self.values_agree(g, SOME)?;
+        }
+        if whole && !small {
+            self.own_parents(g)?;
+        }
+        if by_bytes {
+            return self.begin_second();
+        }
+        if whole { self.pair_agrees() } else { Ok(()) }
+    }
+
+    // A walk's two numbers become others, and the walk makes a step; and once more.
+    fn walks_struck(&mut self, p: Plan, g: Draws) -> Result<(), Found> {
+        let turns = PARTS.wrapping_mul(p.steps);
+        for part in WALK_PARTS.iter() {
+            let h = g.apart(turns.wrapping_add(*part));
+            let target = Blow::of_walk(h, Field::Target, &self.model);
+            self.strike(g, target)?;
+            let handed = Blow::of_walk(h.apart(1), Field::Handed, &self.model);
+            self.strike(g, handed)?;
+            self.operate(Op {
+                call: Call::Step,
+                trace: 0,
+            })?;
+            self.bytes_agree()?;
+        }
+        Ok(())
+    }
+
+    // At the end: all is compared, nodes are their own parents, depths are false, and walks' numbers others.
+    fn end(&mut self, p: Plan, g: Draws) -> Result<(), Found> {
+        self.bytes_agree()?;
+        self.pair_agrees()?;
+        self.values_agree(g, MANY)?;
+        self.own_parents(g)?;
+        self.false_depths(g)?;
+        self.walks_struck(p, g)
+    }
+
+    // The sequence of this seed.
+    pub(crate) fn sequence(&mut self, seed: usize) -> Result<(), Found> {
+        let p = Plan::of(seed);
+        let size = size_of(short(p.vars), short(p.nodes));
+        self.loud.line(format_args!("seed={seed} {p}"));
+        self.counts.add(Count::Sequences, 1);
+        self.store = patterned(self.alloc, size.wrapping_add(p.slack))?;
+        let mut g = Draws::new(seed).next();
+        self.open(Opening::first(p, g))?;
+        for i in 0..p.steps {
+            self.turn(p, i, g)?;
+            g = g.later().later().next();
+        }
+        self.end(p, g)
+    }
 }

@@ -1,8 +1,0 @@
-use Rattle.std.proofs.Common.{◌-◌, ◌≤◌}
-use Rattle.agree.proofs.model.tops_proper.Given as goal
-
-abbrev pub invariant-loop-x : goal.invariant-loop-x
-invariant-loop-x l = l.x ≤ l.v
-
-abbrev pub decreases-loop-x : goal.decreases-loop-x
-decreases-loop-x l = l.v - l.x
