@@ -1,4 +1,5 @@
 // What a call answers, as the model has it, and document 01's numbers for that: these are compared with the store's.
+use crate::found::Found;
 use layout::Store;
 use std::alloc::{AllocError, AllocFailed};
 use std::fmt;
@@ -46,6 +47,7 @@ impl From<Refusal> for Stop {
     }
 }
 
+// Two, as `?` asks for two at Found.
 impl From<AllocError> for Stop {
     fn from(_e: AllocError) -> Stop {
         Stop::Memory
@@ -138,11 +140,11 @@ impl Numbers {
     }
 
     // Of what the model answers.
-    pub(crate) fn of(answer: Result<Done, Stop>) -> Result<Numbers, AllocError> {
+    pub(crate) fn of(answer: Result<Done, Stop>) -> Result<Numbers, Found> {
         match answer {
             Ok(done) => Ok(Numbers::from(done)),
             Err(Stop::Refused(r)) => Ok(Numbers::from(r)),
-            Err(Stop::Memory) => Err(AllocError),
+            Err(Stop::Memory) => Err(Found::Memory),
         }
     }
 }

@@ -1,16 +1,16 @@
 // The store's answers as document 01's numbers: nothing else here calls the store.
 use crate::answers::{Numbers, Told};
 use crate::calls::Call;
-use promises::{Answer, numbers_of};
+use promises::{Answer, Refusal, numbers_of, numbers_told};
 
-fn numbers(a: Answer) -> Numbers {
+fn numbers(a: Result<Answer, Refusal>) -> Numbers {
     let n = numbers_of(a);
     Numbers {
         code: n.code,
         out: n.out,
         moves: n.moves,
         events: n.events,
-        by: if n.decided { Some(n.by) } else { None },
+        by: n.by,
         event: n.event,
         thunk: n.thunk,
     }
@@ -29,7 +29,7 @@ pub(crate) fn peek(s: &[u8], node: u32, variable: u32) -> Numbers {
 }
 
 pub(crate) fn tell(s: &[u8], node: u32) -> Told {
-    let t = store::tell(s, node);
+    let t = numbers_told(store::tell(s, node));
     Told {
         code: t.code,
         kind: t.kind,

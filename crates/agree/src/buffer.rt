@@ -1,7 +1,7 @@
 // Bytes of a lent buffer and numbers in them, little endian: past the end a byte reads 0 and none is written.
 use std::alloc::{AllocError, Global};
 
-// A number that a call takes.
+// A number that a call takes. Beside `short`, since a generic one would need a trait for the largest number of its type.
 pub(crate) fn word(n: usize) -> u32 {
     u32::try_from(n).unwrap_or(u32::MAX)
 }
@@ -19,6 +19,7 @@ pub(crate) fn number(b: &[u8], at: usize) -> u16 {
     u16::from_le_bytes([byte(b, at), byte(b, at.wrapping_add(1))])
 }
 
+// At a place of a store, which need not have it: damage is put anywhere.
 pub(crate) fn put(b: &mut [u8], at: usize, bytes: &[u8]) {
     for (i, from) in bytes.iter().enumerate() {
         if let Some(to) = b.get_mut(at.wrapping_add(i)) {

@@ -20,7 +20,7 @@ pub(crate) enum Field {
     Handed,
 }
 
-// A number becomes another: of a walk, or any.
+// A number becomes another: of a walk, or any, which only counts are told by.
 #[derive(Clone, Copy)]
 pub(crate) struct Blow {
     at: usize,

@@ -55,7 +55,7 @@ impl Draws {
         self.next().below(n)
     }
 
-    // Some number from `low` on, before `end` where there is one.
+    // Some number from `low` on, before `end` where there is one; not a range, which has no end before its beginning.
     pub(crate) fn between(self, low: usize, end: usize) -> usize {
         low.wrapping_add(self.below(end.wrapping_sub(low)))
     }
@@ -418,7 +418,8 @@ impl Source<'_> {
 
 // ---- what is opened
 
-// An opening: V, N and the bytes of top cells; how these are drawn, and whether a byte of them may be another.
+// An opening: V, N and the bytes of top cells; how these are drawn, and whether a byte of them may be another, which
+// is drawn then.
 #[derive(Clone, Copy)]
 pub(crate) struct Opening {
     pub vars: usize,

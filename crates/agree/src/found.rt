@@ -31,6 +31,7 @@ impl fmt::Display for Found {
     }
 }
 
+// A new value and a growing collection fail with two types, so `?` asks for two.
 impl From<AllocError> for Found {
     fn from(_e: AllocError) -> Found {
         Found::Memory

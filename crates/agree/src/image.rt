@@ -8,7 +8,7 @@ use std::alloc::AllocError;
 use std::mem;
 
 // In the header, for no target and for no wind.
-pub(crate) const ABSENT: u16 = Store::NONE as u16;
+pub(crate) const ABSENT: u16 = Store::NONE;
 
 // The cell of a value: its state, and its bits.
 pub(crate) fn cell(value: Option<i32>) -> [u8; Store::CELL] {

@@ -23,9 +23,10 @@ mod say;
 mod walk;
 
 use crate::bench::Bench;
+use crate::counts::Counts;
 use crate::found::Found;
 use crate::say::Loud;
-use std::alloc::AllocError;
+use std::alloc::Global;
 
 // Seeds are 1 to this number.
 const SEQUENCES: usize = 12_000;
@@ -33,23 +34,32 @@ const SEQUENCES: usize = 12_000;
 // Runs all sequences; at the first disagreement the sequence runs once more, with its operations written.
 fn all(bench: &mut Bench) -> Result<(), Found> {
     for seed in 1..=SEQUENCES {
-        if bench.sequence(seed).is_err() {
-            bench.loud.on = true;
-            return bench.sequence(seed);
+        match bench.sequence(seed) {
+            Ok(()) => {}
+            Err(Found::Memory) => return Err(Found::Memory),
+            Err(_) => {
+                bench.loud.on = true;
+                return bench.sequence(seed);
+            }
         }
     }
     Ok(())
 }
 
-fn main(rt: HostRuntime) -> Result<(), AllocError> {
+// What all sequences count.
+fn counted(alloc: Global, loud: Loud) -> Result<Counts, Found> {
+    let mut bench = Bench::new(alloc, loud)?;
+    all(&mut bench)?;
+    Ok(bench.counts)
+}
+
+fn main(rt: HostRuntime) {
     let loud = Loud {
         out: rt.stdout(),
         on: false,
     };
-    let mut bench = Bench::new(rt.alloc(), loud)?;
-    match all(&mut bench) {
-        Ok(()) => loud.write(bench.counts),
+    match counted(rt.alloc(), loud) {
+        Ok(counts) => loud.write(counts),
         Err(found) => loud.write(format_args!("{found}\n")),
     }
-    Ok(())
 }

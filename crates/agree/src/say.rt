@@ -2,7 +2,7 @@
 use std::fmt::Display;
 use std::io::{Stdout, Write};
 
-// Where all is written, and whether what a sequence does is written too.
+// Where all is written, and whether what a sequence does is written too: no value hangs on that.
 #[derive(Clone, Copy)]
 pub(crate) struct Loud {
     pub out: Stdout,

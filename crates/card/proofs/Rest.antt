@@ -1,6 +1,6 @@
 -- The rest of a card: one line less, and a line that may not stand there. Assumes nothing.
 use mathlib.Core.Path.{◌≡◌, refl, sym, ap, subst, ◌∙◌}
-use mathlib.Core.Option.{none, some}
+use Rattle.std.specs.Prelude.{Option, None, Some, Result, Err}
 use mathlib.Core.List.{List, [], ◌∷◌, ◌++◌, append_assoc}
 use Prim.Native.Nat.{ℕ, suc, ◌+◌, ◌-◌, ◌≤◌, ◌<◌}
 use native.Mathlib.Omega.{arith}
@@ -8,20 +8,22 @@ use lib.ListN.{length, take, drop, length-append, length-drop}
 use lib.Seq.{drop_at}
 use Rattle.text.specs.declared.line.Line.{Line}
 use Rattle.text.specs.Finds.{Finds, miss, got, gone, same}
-use Rattle.text.specs.declared.line.Next.{Next}
-use Rattle.text.specs.Lines.{written, InRange, Leads, next_of}
+use Rattle.text.specs.Lines.{written, InRange, Leads}
 use Rattle.text.proofs.Cutting.{to_end}
-use Rattle.card.specs.declared.check.Verdict.{Verdict}
-use Rattle.card.specs.declared.check.Verdict.TheVariants.{Bad}
+use Rattle.card.specs.declared.check.BadLine.{BadLine}
 use Rattle.card.specs.Cards.{Made, Opens, Breaks, text}
 use Rattle.card.specs.Judging.{Judged}
+
+-- the answer that a line is the first bad one
+abbrev pub bad_at : ℕ → Result (Unit {0}) BadLine
+bad_at n = Err (record { 0 = n })
 
 -- ---- no text of a line is empty
 filled : (l : Line) (t : List ℕ) → written l ++ (10 ∷ t) ≡ [] → ⊥
 filled l t e = omega (arith, ap length e, length-append (written l) (10 ∷ t))
 
 -- the good line that s begins with, and what is behind it
-module _ {s : List ℕ} {l : Line} {n : ℕ} (f : Finds (Leads s) (some (l, n))) where
+module _ {s : List ℕ} {l : Line} {n : ℕ} (f : Finds (Leads s) (Some (l, n))) where
   lead : Leads s (l, n)
   lead = got f refl
 
@@ -88,7 +90,7 @@ module _ {s : List ℕ} {l : Line} {n : ℕ} (f : Finds (Leads s) (some (l, n)))
               bytes = same_rest x (text ls ++ o.rest) (in_range x (ls ++ o.more) w) e';
             }
 
-    pub step : {before : ℕ} {r : Verdict} → Judged (λ ls. K (l ∷ ls)) (drop n s) (before + 1) r → Judged K s before r
+    pub step : {before : ℕ} {r : Result (Unit {0}) BadLine} → Judged (λ ls. K (l ∷ ls)) (drop n s) (before + 1) r → Judged K s before r
     step {before} {r} j =
         record {
           good = λ e. made_more (j.good e);
@@ -103,10 +105,10 @@ module _ {s : List ℕ} {l : Line} {n : ℕ} (f : Finds (Leads s) (some (l, n)))
             record { bad = λ m. b.bad (made_less m); before = opens_more k b.before; here = λ o. b.here (opens_less (suc k) o) }
 
 -- ---- the line at a place, as the code lends the rest
-pub at_place : (s : List ℕ) (at : ℕ) {r q : Next} → Finds (Leads (take (length s - at) (drop at s))) (next_of r) → r ≡ q → Finds (Leads (drop at s)) (next_of q)
-at_place s at {r} {q} f e = rw (to_end s at, e) at f
+pub at_place : (s : List ℕ) (at : ℕ) {r : Option (Line × ℕ)} → Finds (Leads (take (length s - at) (drop at s))) r → Finds (Leads (drop at s)) r
+at_place s at {r} f = rw (to_end s at) at f
 
-module _ (s : List ℕ) (at : ℕ) (h : at ≤ length s) {l : Line} {n : ℕ} (f : Finds (Leads (drop at s)) (some (l, n))) where
+module _ (s : List ℕ) (at : ℕ) (h : at ≤ length s) {l : Line} {n : ℕ} (f : Finds (Leads (drop at s)) (Some (l, n))) where
   pub further : (0 < n) × (at + n ≤ length s)
   further = ((enough f).0, omega (arith, (enough f).1, length-drop at s))
 
@@ -132,26 +134,26 @@ module _ {K : List Line → Type 0} {s : List ℕ} (in_range : (x : Line) (ls : 
           (record { rest = rest; text = e ∙ append_assoc (written x) (10 ∷ []) rest; range = in_range x more w; size = refl })
       not_opened more rest (x ∷ y ∷ ls) w c e = omega (arith, c)
 
-  verdict : {before : ℕ} → Breaks K s 0 → Judged K s before (Bad (before + 1))
+  verdict : {before : ℕ} → Breaks K s 0 → Judged K s before (bad_at (before + 1))
   verdict {before} b =
       record {
         good = λ e. absurd (let z : ◌≡◌ {A = ℕ} 0 1 = cc in omega arith);
-        bad = λ m e. (0, (let q : before + 1 ≡ m = cc in omega arith), b);
+        bad = λ m e. (0, (let q : before + 1 ≡ m.0 = cc in omega arith), b);
       }
 
-  pub no_line : {before : ℕ} → Finds (Leads s) none → Judged K s before (Bad (before + 1))
+  pub no_line : {before : ℕ} → Finds (Leads s) None → Judged K s before (bad_at (before + 1))
   no_line {before} f = verdict (stops (λ x ls n w p. gone f refl p))
 
   -- nothing is left, and something was due
-  pub at_end : {before : ℕ} → s ≡ [] → Judged K s before (Bad (before + 1))
+  pub at_end : {before : ℕ} → s ≡ [] → Judged K s before (bad_at (before + 1))
   at_end {before} e = no_line (miss (λ a p. filled a.0 p.rest (sym p.text ∙ e)))
 
-  pub other_line : {before : ℕ} {l : Line} {n : ℕ} → Finds (Leads s) (some (l, n)) → ((ls : List Line) → K (l ∷ ls) → ⊥) → Judged K s before (Bad (before + 1))
+  pub other_line : {before : ℕ} {l : Line} {n : ℕ} → Finds (Leads s) (Some (l, n)) → ((ls : List Line) → K (l ∷ ls) → ⊥) → Judged K s before (bad_at (before + 1))
   other_line {before} {l} {n} f h =
       verdict (stops (λ x ls k w p. h ls (subst (λ (y : Line). K (y ∷ ls)) (sym (ap (λ (a : Line × ℕ). a.0) (same f refl p))) w)))
 
 -- ---- the same lines are whole
-pub judged_iff : {K M : List Line → Type 0} {s : List ℕ} {before : ℕ} {r : Verdict} → ((ls : List Line) → K ls → M ls) →
+pub judged_iff : {K M : List Line → Type 0} {s : List ℕ} {before : ℕ} {r : Result (Unit {0}) BadLine} → ((ls : List Line) → K ls → M ls) →
     ((ls : List Line) → M ls → K ls) → Judged K s before r → Judged M s before r
 judged_iff {K} {M} {s} {before} {r} f g j =
     record {

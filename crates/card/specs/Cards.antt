@@ -1,8 +1,7 @@
 -- What a good card is, and which line of any other is the first bad one (document 01, "The card").
 -- Assumes nothing: these are definitions.
-use Rattle.std.specs.Prelude.{◌≡◌, ◌⊎◌, List, [], ◌∷◌, ◌++◌, map, ℕ, zero, suc, ◌≤◌, ◌<◌, length}
+use Rattle.std.specs.Prelude.{◌≡◌, ◌⊎◌, List, [], ◌∷◌, ◌++◌, map, ℕ, ℤ, zero, suc, ◌≤◌, ◌<◌, length, Option, Result, Ok, Err}
 use Rattle.rules.specs.Refusals.{no_line}
-use Rattle.text.specs.declared.line.Cell.{Cell}
 use Rattle.text.specs.declared.line.Op.{Op}
 use Rattle.text.specs.declared.line.Line.{Line}
 use Rattle.text.specs.declared.line.Line.TheVariants.{Vars, Nodes, Room, Top, Do}
@@ -10,15 +9,14 @@ use Rattle.text.specs.Words.{bytes}
 use Rattle.text.specs.Every.{All}
 use Rattle.text.specs.Limits.{max_bytes}
 use Rattle.text.specs.Lines.{written, InRange}
-use Rattle.card.specs.declared.check.Verdict.{Verdict}
-use Rattle.card.specs.declared.check.Verdict.TheVariants.{Good, Bad}
+use Rattle.card.specs.declared.check.BadLine.{BadLine}
 
 -- the lines of a whole card: vars, nodes, room, as many tops as vars says, then operations, all numbers in range
 pub record Whole (ls : List Line) : Type 0 where
   pub vars : ℕ
   pub nodes : ℕ
   pub room : ℕ
-  pub tops : List Cell
+  pub tops : List (Option ℤ)
   pub ops : List Op
   pub order : ls ≡ Vars vars ∷ Nodes nodes ∷ Room room ∷ (map Top tops ++ map Do ops)
   pub count : length tops ≡ vars
@@ -61,9 +59,9 @@ passed = record { code = 0; line = 0 }
 abbrev pub stopped : ℕ → Ruling
 stopped n = record { code = no_line; line = n }
 
-abbrev pub ruling : Verdict → Ruling
-ruling Good = passed
-ruling (Bad n) = stopped n
+abbrev pub ruling : Result (Unit {0}) BadLine → Ruling
+ruling (Ok u) = passed
+ruling (Err b) = stopped b.0
 
 -- the line that stops a card: 0 where it is too long, else its first bad line, counted from 1
 abbrev pub StopsAt : List ℕ → ℕ → Type 0

@@ -1,8 +1,7 @@
 -- Document 01's cases (a) to (l), "On both sides of the edges", as one table under one theorem: the card's half of (i), and the
 -- store's rows, over its promises; (k) as its operations with their answers and events. Assumes nothing.
-use Rattle.std.specs.Prelude.{refl, List, [], ◌∷◌, map, pos, negsuc}
+use Rattle.std.specs.Prelude.{refl, List, [], ◌∷◌, map, pos, negsuc, Some}
 use Rattle.std.proofs.Common.{inl, inr, arith}
-use Rattle.text.specs.declared.line.Cell.TheVariants.{Value}
 use Rattle.text.specs.declared.line.Op.{Op}
 use Rattle.text.specs.declared.line.Op.TheVariants.{Bind}
 use Rattle.text.specs.declared.line.Line.TheVariants.{Vars, Nodes, Room, Top, Do}
@@ -23,13 +22,13 @@ table =
     ∷ store.table
 
 -- ---- (i): the headings of these cards, and operations behind them
-lines : (ops : List Op) → every.All InRange (map Do ops) → Whole (Vars 1 ∷ Nodes 2 ∷ Room 0 ∷ Top (Value (pos 1)) ∷ map Do ops)
+lines : (ops : List Op) → every.All InRange (map Do ops) → Whole (Vars 1 ∷ Nodes 2 ∷ Room 0 ∷ Top (Some (pos 1)) ∷ map Do ops)
 lines ops r =
     record {
       vars = 1;
       nodes = 2;
       room = 0;
-      tops = Value (pos 1) ∷ [];
+      tops = Some (pos 1) ∷ [];
       ops = ops;
       order = refl;
       count = refl;
@@ -54,7 +53,7 @@ refuses =
       bad = λ e. (
         omega arith,
         first_bad (Do (Bind 0 (negsuc 2147483648))) (λ r. omega (arith, r.1)) []
-            (Vars 1 ∷ Nodes 2 ∷ Room 0 ∷ Top (Value (pos 1)) ∷ []) [] (lines [] tt),
+            (Vars 1 ∷ Nodes 2 ∷ Room 0 ∷ Top (Some (pos 1)) ∷ []) [] (lines [] tt),
       );
     }
 

@@ -1,19 +1,18 @@
 -- The promises leave no choice: two outcomes that one allows coincide. Assumes nothing.
-use Rattle.std.specs.Prelude.{◌≡◌, refl, List, [], ◌∷◌, ◌++◌, ℕ, zero, suc, ◌≤◌, ◌<◌, length, take, drop}
+use Rattle.std.specs.Prelude.{◌≡◌, refl, List, [], ◌∷◌, ◌++◌, ℕ, zero, suc, ◌≤◌, ◌<◌, length, take, drop, Option, Some, None, Result, Ok, Err}
 use Rattle.std.proofs.Common.{sym, ap, subst, ◌∙◌, append_assoc, arith, take-append-drop, length-take-le}
 use Rattle.std.proofs.Math.Decide.{dec_lt}
 use Rattle.text.specs.declared.line.Line.{Line}
 use Rattle.text.specs.Limits.{max_bytes}
 use Rattle.text.specs.Lines.{written}
-use Rattle.card.specs.declared.check.Verdict.{Verdict}
-use Rattle.card.specs.declared.check.Verdict.TheVariants.{Good, Bad}
+use Rattle.card.specs.declared.check.BadLine.{BadLine}
 use Rattle.layout.specs.Bytes.{Bytes}
 use Rattle.demands.proofs.NoChoice.{no_choice}
 use Rattle.text.specs.declared.line.Op.{Op}
 use Rattle.text.specs.Decimal.{whole}
 use Rattle.promises.specs.Answers.{Numbers}
 use Rattle.print.specs.declared.Out.{Out}
-use Rattle.print.specs.declared.Out.TheVariants.{None, Number, Value}
+use Rattle.print.specs.declared.Out.TheVariants.{Number, Value}
 use Rattle.print.specs.declared.Report.{Report}
 use Rattle.print.specs.Printed.{out_text, by_of, by_text, op_line}
 use Rattle.card.specs.Cards.{Whole, Made, Opens, Breaks, text, ruling, StopsAt, Checked}
@@ -62,26 +61,24 @@ module _ (s : List ℕ) where
   stops_one (suc n) zero h g = absurd (omega (arith, h.0))
   stops_one (suc n) (suc m) h g = ap suc (breaks_one n m h.1 g.1)
 
-  pub checked_one : (r q : Verdict) → Checked s (ruling r) → Checked s (ruling q) → r ≡ q
-  checked_one Good Good f g = refl
-  checked_one Good (Bad m) f g = absurd (good_or_stops m (g.bad refl) (f.good refl))
-  checked_one (Bad n) Good f g = absurd (good_or_stops n (f.bad refl) (g.good refl))
-  checked_one (Bad n) (Bad m) f g = ap Bad (stops_one n m (f.bad refl) (g.bad refl))
+  pub checked_one : (r q : Result (Unit {0}) BadLine) → Checked s (ruling r) → Checked s (ruling q) → r ≡ q
+  checked_one (Ok u) (Ok v) f g = refl
+  checked_one (Ok u) (Err b) f g = absurd (good_or_stops b.0 (g.bad refl) (f.good refl))
+  checked_one (Err a) (Ok v) f g = absurd (good_or_stops a.0 (f.bad refl) (g.good refl))
+  checked_one (Err a) (Err b) f g = ap (λ (n : ℕ). Err (record { 0 = n })) (stops_one a.0 b.0 (f.bad refl) (g.bad refl))
 
 -- ---- run: one line, one store and one trace
-out_text_lem : (o : Out) → Plain 0 o → out_text o ≡ whole (out_of o)
+out_text_lem : (o : Option Out) → Plain 0 o → out_text o ≡ whole (out_of o)
 unfolding whole
 out_text_lem None p = absurd p
-out_text_lem (Number v) p = refl
-out_text_lem (Value v by) p = refl
+out_text_lem (Some (Number v)) p = refl
+out_text_lem (Some (Value v by)) p = refl
 
-out_one : (c : ℕ) (a b : Out) → Plain c a → Plain c b → out_of a ≡ out_of b → out_text a ≡ out_text b
+out_one : (c : ℕ) (a b : Option Out) → Plain c a → Plain c b → out_of a ≡ out_of b → out_text a ≡ out_text b
 out_one zero a b p q e = out_text_lem a p ∙ ap whole e ∙ sym (out_text_lem b q)
 out_one (suc c) None None p q e = refl
-out_one (suc c) None (Number n) p q e = absurd q
-out_one (suc c) None (Value v by) p q e = absurd q
-out_one (suc c) (Number n) b p q e = absurd p
-out_one (suc c) (Value v by) b p q e = absurd p
+out_one (suc c) None (Some o) p q e = absurd q
+out_one (suc c) (Some o) b p q e = absurd p
 
 line_one : (r q : Report) → r.op ≡ q.op → shown r ≡ shown q → Plain r.code r.out → Plain q.code q.out → op_line r ≡ op_line q
 unfolding op_line

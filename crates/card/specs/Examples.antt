@@ -1,7 +1,6 @@
 -- Document 01's example is a good card, computed from the definitions. Assumes nothing.
-use Rattle.std.specs.Prelude.{refl, [], ◌∷◌, pos, negsuc}
+use Rattle.std.specs.Prelude.{refl, [], ◌∷◌, pos, negsuc, Some}
 use Rattle.std.proofs.Common.{arith}
-use Rattle.text.specs.declared.line.Cell.TheVariants.{Value}
 use Rattle.text.specs.declared.line.Op.TheVariants.{Bind, Wind, Look, Goto, Peek}
 use Rattle.text.specs.declared.line.Line.TheVariants.{Vars, Nodes, Room, Top, Do}
 use Rattle.text.specs.Words.{bytes}
@@ -12,13 +11,13 @@ pub example : Made Whole (bytes "vars=1\nnodes=4\nroom=2\ntop=1\nbind=0,-1\nwind
 unfolding decimal whole tens
 example =
     record {
-      lines = Vars 1 ∷ Nodes 4 ∷ Room 2 ∷ Top (Value (pos 1)) ∷ Do (Bind 0 (negsuc 0)) ∷ Do (Wind 10 11) ∷ Do (Bind 0 (pos 1)) ∷ Do (Goto 0)
+      lines = Vars 1 ∷ Nodes 4 ∷ Room 2 ∷ Top (Some (pos 1)) ∷ Do (Bind 0 (negsuc 0)) ∷ Do (Wind 10 11) ∷ Do (Bind 0 (pos 1)) ∷ Do (Goto 0)
           ∷ Do (Goto 3) ∷ Do (Look 0) ∷ Do (Peek 1 0) ∷ Do (Bind 0 (pos 5)) ∷ [];
       whole = record {
         vars = 1;
         nodes = 4;
         room = 2;
-        tops = Value (pos 1) ∷ [];
+        tops = Some (pos 1) ∷ [];
         ops = Bind 0 (negsuc 0) ∷ Wind 10 11 ∷ Bind 0 (pos 1) ∷ Goto 0 ∷ Goto 3 ∷ Look 0 ∷ Peek 1 0 ∷ Bind 0 (pos 5) ∷ [];
         order = refl;
         count = refl;

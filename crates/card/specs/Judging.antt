@@ -1,16 +1,15 @@
 -- The verdict on the rest of a card, for the check's own functions. Assumes nothing: these are definitions.
-use Rattle.std.specs.Prelude.{◌≡◌, List, [], ◌∷◌, ℕ, suc, ◌+◌, ◌≤◌, ◌<◌}
+use Rattle.std.specs.Prelude.{◌≡◌, List, [], ◌∷◌, ℕ, suc, ◌+◌, ◌≤◌, ◌<◌, Result, Ok, Err}
 use Rattle.text.specs.declared.line.Line.{Line}
 use Rattle.text.specs.declared.line.Line.TheVariants.{Vars, Nodes, Room, Top, Do}
 use Rattle.text.specs.Lines.{InRange}
-use Rattle.card.specs.declared.check.Verdict.{Verdict}
-use Rattle.card.specs.declared.check.Verdict.TheVariants.{Good, Bad}
+use Rattle.card.specs.declared.check.BadLine.{BadLine}
 use Rattle.card.specs.Cards.{Made, Breaks}
 
 -- the verdict r on a rest s of which the lines in K are whole, with so many lines before it
-pub record Judged (K : List Line → Type 0) (s : List ℕ) (before : ℕ) (r : Verdict) : Type 0 where
-  pub good : r ≡ Good → Made K s
-  pub bad : (m : ℕ) → r ≡ Bad m → (n : ℕ) × (m ≡ suc (before + n)) × Breaks K s n
+pub record Judged (K : List Line → Type 0) (s : List ℕ) (before : ℕ) (r : Result (Unit {0}) BadLine) : Type 0 where
+  pub good : r ≡ Ok tt → Made K s
+  pub bad : (b : BadLine) → r ≡ Err b → (n : ℕ) × (b.0 ≡ suc (before + n)) × Breaks K s n
 
 -- a line may stand behind so many lines, where so many stand before the operations
 abbrev pub MayStand : Line → ℕ → ℕ → Type 0

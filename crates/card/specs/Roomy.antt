@@ -1,6 +1,6 @@
 -- The run of an operation from its call's promise; a call that is no stride of a walk hands no event over, and its events are within
 -- the room of the trace that it was lent. Assumes nothing.
-use Rattle.std.specs.Prelude.{◌≡◌, refl, false, List, [], ℕ, ◌*◌, ◌≤◌, length}
+use Rattle.std.specs.Prelude.{◌≡◌, refl, false, List, [], ℕ, ◌*◌, ◌≤◌, length, Result}
 use Rattle.std.proofs.Common.{ap, arith}
 use Rattle.rules.proofs.Basic.{clash}
 use Rattle.rules.specs.Moves.{Event}
@@ -8,6 +8,7 @@ use Rattle.rules.specs.Act.{Call}
 use Rattle.rules.proofs.Demands.{act_roomy}
 use Rattle.layout.specs.Limits.{event_size}
 use Rattle.promises.specs.declared.Answer.{Answer}
+use Rattle.promises.specs.declared.Refusal.{Refusal}
 use Rattle.promises.specs.Answers.{Numbers, numbers, flat}
 use Rattle.promises.specs.Promises.{world, room_for}
 use Rattle.promises.specs.Calls.{Promised, Called, Code, is_done_lem, is_refused}
@@ -39,7 +40,7 @@ roomy c s t s' t' n h p = go (called c s t s' t' n p) (code_of_lem n)
         rw told ((ap enters_in none, ap thunk_in none), omega (arith, act_roomy (size_at s) (room_for t) c (world s) (λ is. clash (ap is_stride is) h)))
 
 -- the report of the call's answer
-pub ran : (k : ℕ) (o : Op) (s t s' t' : List ℕ) (a : Answer) (r : Report) → r ≡ report_of k (flat (numbers a)) → Promised (call_of o) s t s' t' (numbers a)
+pub ran : (k : ℕ) (o : Op) (s t s' t' : List ℕ) (a : Result Answer Refusal) (r : Report) → r ≡ report_of k (flat (numbers a)) → Promised (call_of o) s t s' t' (numbers a)
     → Ran k o s t s' t' r × (r.events * event_size ≤ length t)
 unfolding report_of flat
 ran k o s t s' t' a r e p =

@@ -1,19 +1,20 @@
 -- What the run of one operation does: the call that it stands for, and what is printed of the answer (document 01, "The card").
 -- Assumes nothing: these are definitions, and that a report shows its answer's numbers.
-use Rattle.std.specs.Prelude.{◌≡◌, Bool, List, ℤ, pos}
+use Rattle.std.specs.Prelude.{◌≡◌, Bool, List, ℤ, pos, Option, Some, None, Result, Ok, Err}
 use Rattle.std.proofs.Math.Path.{refl, sym}
 use Rattle.std.proofs.Common.{◌∙◌, arith}
 use Rattle.std.proofs.Math.Bool.{true, false}
-use Rattle.std.proofs.Math.Option.{Option, none, some}
+use Rattle.std.proofs.Math.Option as maybe
 use Prim.Native.Nat.{ℕ, zero, suc}
 use Rattle.rules.specs.Act.{Ask, Child, Goal, Call}
-use Rattle.rules.specs.Basic.{or_top}
 use Rattle.promises.specs.declared.Answer.{Answer}
+use Rattle.promises.specs.declared.Refusal.{Refusal}
+use Rattle.promises.specs.declared.Handed.{Handed}
 use Rattle.promises.specs.declared.Flat.{Flat}
-use Rattle.promises.specs.Answers.{Numbers, numbers, is_some, flat}
+use Rattle.promises.specs.Answers.{Numbers, stepped, numbers, decider, flat}
 use Rattle.text.specs.declared.line.Op.{Op}
 use Rattle.print.specs.declared.Out.{Out}
-use Rattle.print.specs.declared.Out.TheVariants.{None, Number, Value}
+use Rattle.print.specs.declared.Out.TheVariants.{Number, Value}
 use Rattle.print.specs.declared.Report.{Report}
 use Rattle.print.specs.Printed.{by_of}
 use Rattle.promises.specs.Calls.{Promised}
@@ -49,21 +50,19 @@ no_stride (Op.Peek a x) = refl
 
 -- ---- the numbers that a report shows; `none` stands for the 0 beside a refusal's number, and for nothing else; no event is
 -- handed over
-abbrev pub out_of : Out → ℤ
+abbrev pub out_of : Option Out → ℤ
 out_of None = pos 0
-out_of (Number v) = v
-out_of (Value v by) = v
+out_of (Some (Number v)) = v
+out_of (Some (Value v by)) = v
 
 abbrev pub shown : Report → Numbers
 shown r = record { code = r.code; out = out_of r.out; moves = r.moves; events = r.events; by = by_of r.out; event = 0; thunk = 0 }
 
-abbrev pub Plain : ℕ → Out → Type 0
+abbrev pub Plain : ℕ → Option Out → Type 0
 Plain zero None = ⊥
-Plain zero (Number n) = Unit {0}
-Plain zero (Value v by) = Unit {0}
+Plain zero (Some o) = Unit {0}
 Plain (suc k) None = Unit {0}
-Plain (suc k) (Number n) = ⊥
-Plain (suc k) (Value v by) = ⊥
+Plain (suc k) (Some o) = ⊥
 
 -- the operation o with the number k, run from the store s and the trace t to s' and t', with the report r
 pub record Ran (k : ℕ) (o : Op) (s t s' t' : List ℕ) (r : Report) : Type 0 where
@@ -72,38 +71,42 @@ pub record Ran (k : ℕ) (o : Op) (s t s' t' : List ℕ) (r : Report) : Type 0 w
   pub plain : Plain r.code r.out
 
 -- ---- the report of an answer's numbers
-unfoldable pub out_by : ℕ → Bool → ℤ → ℕ → Out
-out_by zero true v by = Value v by
-out_by zero false v by = Number v
-out_by (suc k) d v by = None
+unfoldable pub out_by : ℕ → ℤ → Option ℕ → Option Out
+out_by zero v (Some by) = Some (Value v by)
+out_by zero v None = Some (Number v)
+out_by (suc k) v by = None
 
 unfoldable pub report_of : ℕ → Flat → Report
-report_of op n = record { op = op; code = n.code; out = out_by n.code n.decided n.out n.by; moves = n.moves; events = n.events }
+report_of op n = record { op = op; code = n.code; out = out_by n.code n.out n.by; moves = n.moves; events = n.events }
 
 -- beside a refusal's number stands nothing
-refused_plain : (a : Answer) (k : ℕ) → (numbers a).code ≡ suc k → ((numbers a).out ≡ pos 0) × ((numbers a).by ≡ none)
+refused_plain : (a : Result Answer Refusal) (k : ℕ) → (numbers a).code ≡ suc k → ((numbers a).out ≡ pos 0) × ((numbers a).by ≡ maybe.none)
 unfolding numbers
-refused_plain Answer.Opened k e = absurd (omega arith)
-refused_plain (Answer.Number n) k e = absurd (omega arith)
-refused_plain (Answer.Made m) k e = absurd (omega arith)
-refused_plain (Answer.Value v) k e = absurd (omega arith)
-refused_plain (Answer.Switched w) k e = absurd (omega arith)
-refused_plain (Answer.Stepped w) k e = absurd (omega arith)
-refused_plain (Answer.Refused r) k e = (refl, refl)
+refused_plain (Ok Answer.Opened) k e = absurd (omega arith)
+refused_plain (Ok (Answer.Number n)) k e = absurd (omega arith)
+refused_plain (Ok (Answer.Made m)) k e = absurd (omega arith)
+refused_plain (Ok (Answer.Value v)) k e = absurd (omega arith)
+refused_plain (Ok (Answer.Switched w)) k e = absurd (omega arith)
+refused_plain (Ok (Answer.Stepped w)) k e = go w.handed e
+  where
+    go : (h : Option Handed) → (stepped w.focus w.moves h).code ≡ suc k → ((stepped w.focus w.moves h).out ≡ pos 0) × ((stepped w.focus w.moves h).by ≡ maybe.none)
+    go None e = absurd (omega arith)
+    go (Some h) e = absurd (omega arith)
+refused_plain (Err r) k e = (refl, refl)
 
 -- no event is handed over
 abbrev pub Unhanded : Numbers → Type 0
 Unhanded n = (n.event ≡ 0) × (n.thunk ≡ 0)
 
 -- it shows the answer's numbers where no event is handed over, and none beside a refusal alone
-module _ (op : ℕ) (a : Answer) where
+module _ (op : ℕ) (a : Result Answer Refusal) where
   abbrev n : Numbers
   n = numbers a
 
-  out_shown : (c : ℕ) → n.code ≡ c → (b : Option ℕ) → n.by ≡ b → (out_of (out_by c (is_some b) n.out (or_top b)) ≡ n.out) × (by_of (out_by c (is_some b) n.out (or_top b)) ≡ b)
+  out_shown : (c : ℕ) → n.code ≡ c → (b : maybe.Option ℕ) → n.by ≡ b → (out_of (out_by c n.out (decider b)) ≡ n.out) × (by_of (out_by c n.out (decider b)) ≡ b)
   unfolding out_by
-  out_shown zero e none f = (refl, refl)
-  out_shown zero e (some by) f = (refl, refl)
+  out_shown zero e maybe.none f = (refl, refl)
+  out_shown zero e (maybe.some by) f = (refl, refl)
   out_shown (suc k) e b f = let (o, y) = refused_plain a k e in (sym o, sym y ∙ f)
 
   pub shows : Unhanded n → shown (report_of op (flat n)) ≡ n
@@ -112,9 +115,9 @@ module _ (op : ℕ) (a : Answer) where
 
   pub plainly : Plain (report_of op (flat n)).code (report_of op (flat n)).out
   unfolding report_of flat out_by
-  plainly = go n.code (is_some n.by)
+  plainly = go n.code n.by
     where
-      go : (c : ℕ) (d : Bool) → Plain c (out_by c d n.out (or_top n.by))
-      go zero true = tt
-      go zero false = tt
-      go (suc k) d = tt
+      go : (c : ℕ) (b : maybe.Option ℕ) → Plain c (out_by c n.out (decider b))
+      go zero (maybe.some by) = tt
+      go zero maybe.none = tt
+      go (suc k) b = tt

@@ -6,14 +6,11 @@ ghost use Rattle.card.specs.Cards.{ruling, Checked};
 ghost use Rattle.card.specs.Judging.{MayStand, ops_from};
 
 use text::Card;
-use text::line::{Line, Next, next_line};
+use text::line::{Line, next_line};
 
-// Bad has the first bad line, counted from 1; 0 where the card is too long.
-#[derive(Clone, Copy)]
-pub enum Verdict {
-    Good,
-    Bad(u32),
-}
+// A card's first bad line, counted from 1; 0 where the card is too long, as document 01 numbers the lines of its verdicts.
+#[derive(Clone, Copy, Debug, PartialEq, Eq)]
+pub struct BadLine(pub u32);
 
 // Whether this line may stand behind so many lines, where so many stand before the operations.
 fn may_stand(line: Line, before: u32, ops: u32) -> bool
@@ -23,7 +20,7 @@ fn may_stand(line: Line, before: u32, ops: u32) -> bool
         Line::Vars(_) => before == 0,
         Line::Nodes(_) => before == 1,
         Line::Room(_) => before == 2,
-        Line::Top(_) => 3 <= before && before < ops,
+        Line::Top(_) => (3..ops).contains(&before),
         Line::Do(_) => ops <= before,
     }
 }
@@ -33,35 +30,36 @@ fn ops_from(line: Line, ops: u32) -> u32
     requires { InRange line }
     ensures { result ≡ ops_from line ops }
 {
-    let Line::Vars(n) = line else {
-        return ops;
-    };
-    3 + n
+    match line {
+        Line::Vars(n) => 3 + n,
+        _ => ops,
+    }
 }
 
-// Whether the card is good, and otherwise which line is its first bad one.
-pub fn check(card: &[u8]) -> Verdict
+// Whether the card is good; otherwise its first bad line.
+pub fn check(card: &[u8]) -> Result<(), BadLine>
     ensures { Checked card.now (ruling result) }
 {
     if Card::BYTES < card.len() {
-        return Verdict::Bad(0);
+        return Err(BadLine(0));
     }
     let mut at: usize = 0;
     let mut lines: u32 = 0;
     let mut ops: u32 = 3;
+    // the place moves by what each line takes; an iterator of lines would hold that place, and the invariant speak of its field
     while at < card.len() {
-        let Next::Good(line, n) = next_line(&card[at..]) else {
-            return Verdict::Bad(lines + 1);
+        let Some((line, n)) = next_line(&card[at..]) else {
+            return Err(BadLine(lines + 1));
         };
         if !may_stand(line, lines, ops) {
-            return Verdict::Bad(lines + 1);
+            return Err(BadLine(lines + 1));
         }
         ops = ops_from(line, ops);
         at += n;
         lines += 1;
     }
     if lines < ops {
-        return Verdict::Bad(lines + 1);
+        return Err(BadLine(lines + 1));
     }
-    Verdict::Good
+    Ok(())
 }

@@ -6,38 +6,43 @@ ghost use Rattle.promises.specs.Calls.{Promised};
 ghost use Rattle.card.specs.Running.{call_of, out_by, report_of, Ran};
 
 use print::{Out, Report};
-use promises::{Answer, Flat, numbers_of};
+use promises::{Answer, Flat, Refusal, numbers_of};
 use text::line::Op;
 
 // What is printed as the answer: none on a refusal, else a number, or a value and its decider.
-fn answer_of(n: Flat) -> Out
-    ensures { result ≡ out_by n.code n.decided n.out n.by }
+#[tactic(auto, unfolding(crate::specs::Running::out_by))]
+fn answer_of(n: Flat) -> Option<Out>
+    ensures { result ≡ out_by n.code n.out n.by }
 {
     if n.code != 0 {
-        return Out::None;
+        return None;
     }
-    if n.decided {
-        return Out::Value(n.out, n.by as u32);
-    }
-    Out::Number(n.out)
+    Some(match n.by {
+        Some(by) => Out::Value {
+            value: n.out,
+            by: u32::from(by),
+        },
+        None => Out::Number(n.out),
+    })
 }
 
 // What is printed of an answer to the operation with this number.
-fn reported(op: u32, a: Answer) -> Report
+#[tactic(auto, unfolding(crate::specs::Running::report_of))]
+fn reported(op: u32, a: Result<Answer, Refusal>) -> Report
     ensures { result ≡ report_of op (flat (numbers a)) }
 {
     let n = numbers_of(a);
     Report {
         op,
-        code: n.code as u32,
+        code: u32::from(n.code),
         out: answer_of(n),
-        moves: n.moves as u32,
-        events: n.events as u32,
+        moves: u32::from(n.moves),
+        events: u32::from(n.events),
     }
 }
 
 // The call that the operation stands for.
-fn call(op: Op, store: &mut [u8], trace: &mut [u8]) -> Answer
+fn call(op: Op, store: &mut [u8], trace: &mut [u8]) -> Result<Answer, Refusal>
     ensures { Promised (call_of op) store.old trace.old store.new trace.new (numbers result) }
 {
     match op {

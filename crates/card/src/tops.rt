@@ -3,14 +3,10 @@ ghost use Rattle.std.specs.Prelude.{◌≡◌};
 ghost use Rattle.card.specs.Tops.{cell_b};
 
 use layout::{Store, value_cell};
-use text::line::Cell;
 
-// A top value as a bare cell.
-pub fn bare(cell: Cell) -> [u8; Store::BARE]
-    ensures { result ≡ cell_b cell }
+// A top value, or none, as a bare cell.
+pub fn bare(value: Option<i32>) -> [u8; Store::BARE]
+    ensures { result ≡ cell_b value }
 {
-    match cell {
-        Cell::Value(v) => value_cell(v),
-        Cell::Unbound => [0; Store::BARE],
-    }
+    value.map_or([0; Store::BARE], value_cell)
 }

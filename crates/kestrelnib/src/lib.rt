@@ -2,11 +2,11 @@
 #![tactic(auto)]
 
 ghost use Rattle.std.specs.Prelude.{◌≡◌};
-ghost use Rattle.promises.specs.Answers.{numbers};
+ghost use Rattle.promises.specs.Answers.{Numbers, numbers, flat};
 ghost use Rattle.promises.specs.Promises.{OpenPromise, BindPromise, WindPromise, LookPromise, SetPromise, HerePromise, GotoPromise, BackPromise, PeekPromise, FarPromise, TellPromise, BeginPromise, StepPromise, DropPromise};
 ghost use Rattle.kestrelnib.specs.Face.{reply_of, Hands, told_of, limit};
 
-use promises::{Answer, Told, numbers_of};
+use promises::{Answer, Flat, Refusal, Told, numbers_of, numbers_told};
 
 // Document 01's numbers of an answer: the answer itself, its number, the moves, the number of events; of a value the decider,
 // of a step the thunk and the event that it hands over.
@@ -22,19 +22,27 @@ pub struct Reply {
     pub event: u16,
 }
 
-fn numbered(a: Answer) -> Reply
+impl From<Flat> for Reply {
+    ghost from_gives = { λ n r. (k : Numbers) → n ≡ flat k → r ≡ reply_of k };
+
+    #[tactic(auto, unfolding(crate::specs::Face::reply_of, promises::specs::Answers::flat))]
+    fn from(n: Flat) -> Reply {
+        Reply {
+            out: n.out,
+            code: n.code,
+            moves: n.moves,
+            events: n.events,
+            by: n.by.unwrap_or(0),
+            thunk: n.thunk,
+            event: n.event,
+        }
+    }
+}
+
+fn numbered(a: Result<Answer, Refusal>) -> Reply
     ensures { result ≡ reply_of (numbers a) }
 {
-    let n = numbers_of(a);
-    Reply {
-        out: n.out,
-        code: n.code,
-        moves: n.moves,
-        events: n.events,
-        by: n.by,
-        thunk: n.thunk,
-        event: n.event,
-    }
+    Reply::from(numbers_of(a))
 }
 
 #[unsafe(no_mangle)]
@@ -120,17 +128,20 @@ pub struct Env {
     pub state: u16,
 }
 
-fn env_of(t: Told) -> Env
-    ensures { told_of result ≡ t }
-{
-    Env {
-        value: t.value,
-        code: t.code,
-        kind: t.kind,
-        parent: t.parent,
-        first: t.first,
-        second: t.second,
-        state: t.state,
+impl From<Told> for Env {
+    ghost from_gives = { λ t r. told_of r ≡ t };
+
+    #[tactic(auto, unfolding(crate::specs::Face::told_of))]
+    fn from(t: Told) -> Env {
+        Env {
+            value: t.value,
+            code: t.code,
+            kind: t.kind,
+            parent: t.parent,
+            first: t.first,
+            second: t.second,
+            state: t.state,
+        }
     }
 }
 
@@ -138,7 +149,7 @@ fn env_of(t: Told) -> Env
 pub extern "C" fn kn_tell(store: &[u8], a: u32) -> Env
     ensures { TellPromise store.now a store.now (told_of result) }
 {
-    env_of(store::tell(store, a))
+    Env::from(numbers_told(store::tell(store, a)))
 }
 
 #[unsafe(no_mangle)]
@@ -162,7 +173,9 @@ pub extern "C" fn kn_drop(store: &mut [u8]) -> Reply
     numbered(store::drop(store))
 }
 
-// The library's own limits and sizes, by their place in document 01's list, so that a test can hold the header to them.
+// The library's own limits and sizes, by their place in document 01's list, so that a test can hold the header to them. The place
+// stays a number, since C asks for it by `kn_limit`.
+#[tactic(auto, unfolding(crate::specs::Face::limit))]
 #[unsafe(no_mangle)]
 pub extern "C" fn kn_limit(which: u32) -> u32
     ensures { result ≡ limit which }

@@ -2,14 +2,16 @@
 use Rattle.std.specs.Prelude.{◌≡◌, refl, get_or, set, replicate}
 use Rattle.std.proofs.Math.Path.{sym, ap}
 use Rattle.std.proofs.Common.{subst, ◌∙◌, length-set, length-append, length-drop, take-append-drop, ext_get_or, get_or-take, get_or-drop, get_or-set_same, get_or-set_other}
-use Prim.Native.Nat.{ℕ, ◌+◌, ◌-◌, ◌/◌, ◌%◌, ◌≤◌, ◌<◌}
+use Rattle.std.specs.Simd.{first_chunks}
+use native.Mathlib.Numerals.{unary_clauses}
+use Prim.Native.Nat.{◌*◌, zero, suc, ℕ, ◌+◌, ◌-◌, ◌/◌, ◌%◌, ◌≤◌, ◌<◌}
 use Rattle.std.proofs.Math.Nat.{add-sub_cancel_left}
 use native.Mathlib.Omega.{arith}
 use Rattle.std.proofs.Math.Decide.{dec_le}
 use mathlib.Core.List.{List, [], ◌∷◌, ◌++◌, append_assoc}
 use Rattle.std.proofs.Math.ListN.{length, take, drop}
 use Rattle.std.proofs.lemmas.List.{length-replicate, get_or-replicate, drop-append-le}
-use Rattle.std.proofs.Math.Seq.{take-append-le, drop-append-add, take_at, drop_at, drop-drop, take-take, length-take-le}
+use Rattle.std.proofs.Math.Seq.{take-append-le, drop-append-add, take_at, drop_at, drop-drop, take-take, length-take-le, take_all}
 use Rattle.layout.specs.Bytes.{part, splice, u16, put16, tab, Zeros, Bytes, BytesTo}
 
 -- ---- what the borrow checker leaves of a part `&s[a..e]` or `&mut s[a..e]` with e = a + n
@@ -134,6 +136,10 @@ module _ (xs ys zs : List ℕ) (a n m : ℕ) (long : length ys ≡ n) (fits : a 
       let e : drop m (drop (a + n) xs) ≡ drop (n + m) (drop a xs) = ap (drop m) (sym (drop-drop n a xs)) ∙ drop-drop m n (drop a xs) in
       rw (h, k, e) (simp append_assoc)
 
+-- the high byte of a number in two bytes
+pub high_byte : (v : ℕ) → v < 65536 → v / 256 % 256 ≡ v / 256
+high_byte v h = omega arith
+
 pub put16_length : (p : List ℕ) (o v : ℕ) → length (put16 p o v) ≡ length p
 unfolding put16
 put16_length p o v = simp length-set
@@ -168,6 +174,23 @@ splice_apart xs ys a n b m l f h = go (dec_le (b + m) a) (dec_le (a + n) b)
 -- ---- a part that was lent and came back: what a callee did to the part, f, is done in the whole, at the place b that a is
 pub seen_at : (xs : List ℕ) (a b n : ℕ) → a ≡ b → take (a + n - a) (drop a xs) ≡ part xs b n
 seen_at xs a b n e = seen xs a n ∙ ap (λ (i : ℕ). part xs i n) e
+
+-- ---- the chunks of n elements: the one with the number i, and that of `&s[a..]`
+pub chunk_at : (n k i : ℕ) (xs d : List ℕ) → i < k → get_or (first_chunks n k xs) i d ≡ part xs (n * i) n
+unfolding part
+chunk_at n zero i xs d h = absurd (omega arith)
+chunk_at n (suc k) zero xs d h =
+    let none : 0 ≡ n * 0 = simp unary_clauses refl in
+    ap (λ (j : ℕ). take n (drop j xs)) none
+chunk_at n (suc k) (suc i) xs d h =
+    let next : n + n * i ≡ n * suc i = simp unary_clauses (omega arith) in
+    chunk_at n k i (drop n xs) d (omega arith) ∙ part_drop xs n (n * i) n ∙ ap (λ (j : ℕ). part xs j n) next
+
+pub seen_chunk : (xs : List ℕ) (a n k i : ℕ) (d : List ℕ) → i < k → get_or (first_chunks n k (take (length xs - a) (drop a xs))) i d ≡ part xs (a + n * i) n
+seen_chunk xs a n k i d h =
+    ap (λ (ys : List ℕ). get_or (first_chunks n k ys) i d) (take_all (length xs - a) (drop a xs) (simp length-drop (omega arith)))
+    ∙ chunk_at n k i (drop a xs) d h
+    ∙ part_drop xs a (n * i) n
 
 pub lent_at : (f : List ℕ → List ℕ) (xs ys : List ℕ) (a b n : ℕ) → a ≡ b → ys ≡ f (take (a + n - a) (drop a xs)) → take a xs ++ (ys ++ drop (a + n - a) (drop a xs)) ≡ splice xs b n (f (part xs b n))
 lent_at f xs ys a b n e h = lent xs ys a n ∙ ap (λ (i : ℕ). splice xs i n ys) e ∙ ap (splice xs b n) (h ∙ ap f (seen_at xs a b n e))

@@ -1,6 +1,7 @@
 -- What the soundness check needs: answers of tests carried from one statement to another, bytes that are zero, the count
 -- of the nodes that are in, and the modes. Assumes nothing.
-use Rattle.std.specs.Prelude.{◌≡◌, refl, ◌⊎◌, Bool, not, List, ◌∷◌, ℕ, zero, suc, ◌+◌, ◌-◌, ◌≤◌, ◌<◌, eqb, ltb, length, get_or, take, drop, replicate}
+use Rattle.std.specs.Prelude.{◌≡◌, refl, ◌⊎◌, Bool, not, List, [], ◌∷◌, ℕ, zero, suc, ◌+◌, ◌-◌, ◌≤◌, ◌<◌, Option, None, Some, max, eqb, ltb, length, get_or, take, drop, replicate}
+use Rattle.std.specs.List.{fold}
 use Rattle.std.proofs.Math.Path.{sym, ap}
 use Rattle.std.proofs.Common.{subst, ◌∙◌, le_refl, arith, add-one, length-drop, length-take-le, get_or-take, get_or-drop, eqb-true, ltb-true, ltb-false}
 use Rattle.std.proofs.Math.Logic.{inl, inr, ⊎_elim}
@@ -21,7 +22,7 @@ use Rattle.layout.specs.Kinds.{is_in, is_out}
 use Rattle.layout.proofs.NodeKinds.{node_kind, out_not_in}
 use Rattle.layout.specs.Fields.{Fields, fields_of, made_f, focus_f}
 use Rattle.layout.specs.View.{up_n, tree_f}
-use Rattle.layout.specs.Sound.{Says, Shape, Ins, Whole}
+use Rattle.layout.specs.Sound.{Says, SaysWith, Shape, Ins, Whole}
 use Rattle.layout.proofs.Laws.{OfBuffer, of_buffer}
 use Rattle.layout.proofs.SoundLaws.{Place, is_top, is_inner, is_blank, place, out_top, shape_inners, parents_made, inner_up, up_inner, shape_proper, shape_ranked, path_made, modes_by_numbers, sound_fit}
 use Rattle.layout.specs.Checks.{Counted, mode_f, AllRise}
@@ -31,6 +32,10 @@ pub says_map : (b : Bool) {P Q : Type 0} → (P → Q) → (Q → P) → Says b 
 says_map true to from h = to h
 says_map false to from h = λ q. h (from q)
 
+pub says_with_map : (o : Option ℕ) {P P' : Type 0} {Q Q' : ℕ → Type 0} → (P → P') → (P' → P) → ((k : ℕ) → Q k → Q' k) → SaysWith o P Q → SaysWith o P' Q'
+says_with_map None to from more h = λ p. h (from p)
+says_with_map (Some k) to from more h = (to h.0, more k h.1)
+
 -- after `if !b { return false; }`
 pub refuted : (b : Bool) {P : Type 0} → not b ≡ true → Says b P → P → ⊥
 refuted true e h p = clash e refl
@@ -39,6 +44,15 @@ refuted false e h p = h p
 pub held : (b : Bool) {P : Type 0} → not b ≡ false → Says b P → P
 held true e h = h
 held false e h = clash refl e
+
+-- a test whose outcome is known
+pub says_so : (b : Bool) {P : Type 0} → b ≡ true → P → Says b P
+says_so true e p = p
+says_so false e p = clash e refl
+
+pub says_not : (b : Bool) {P : Type 0} → b ≡ false → (P → ⊥) → Says b P
+says_not true e h = clash refl e
+says_not false e h = h
 
 pub says_eq : (a b : ℕ) → Says (eqb a b) (a ≡ b)
 says_eq a b = go (eqb a b) refl
@@ -62,21 +76,20 @@ below_more P n all one k h = go (ℕ_discrete k n)
     go (yes e) = subst P (sym e) one
     go (no e) = all k (omega arith)
 
--- ---- bytes that are zero, and one byte more
-module _ (p : List ℕ) (i : ℕ) where
-  pub zeros_on : (other : ℕ) → get_or p i 0 ≤ other → Says (eqb other 0) (Zeros p 0 i) → Says (eqb other 0) (Zeros p 0 (i + 1))
-  zeros_on other e = go (eqb other 0) refl
-    where
-      go : (b : Bool) → eqb other 0 ≡ b → Says b (Zeros p 0 i) → Says b (Zeros p 0 (i + 1))
-      go true q z = λ j l. below_more (λ (k : ℕ). get_or p k 0 ≡ 0) i (λ k. z k (omega arith)) (omega (arith, eqb-true other 0 q)) j
-      go false q z = λ w. z (λ j l h. w j l (omega arith))
+-- ---- bytes that are zero: the largest of them is
+none_larger : (p : List ℕ) (a : ℕ) → fold max a p ≡ 0 → (a ≡ 0) × (p ≡ replicate (length p) 0)
+none_larger [] a e = (e, refl)
+none_larger (b ∷ p) a e =
+    let (m, rest) = none_larger p (max a b) e in
+    let none_here : b ≡ 0 = omega (arith, m) in
+    (omega (arith, m), (λ i. none_here i ∷ rest i))
 
-  pub zeros_off : (other : ℕ) → other < get_or p i 0 → Says (eqb (get_or p i 0) 0) (Zeros p 0 (i + 1))
-  zeros_off other d = go (eqb (get_or p i 0) 0) refl
-    where
-      go : (b : Bool) → eqb (get_or p i 0) 0 ≡ b → Says b (Zeros p 0 (i + 1))
-      go true q = absurd (omega (arith, eqb-true (get_or p i 0) 0 q))
-      go false q = λ z. omega (arith, z i (omega arith) (omega arith))
+pub zeros_largest : (p : List ℕ) → (fold max 0 p ≡ 0 → p ≡ replicate (length p) 0) × (p ≡ replicate (length p) 0 → fold max 0 p ≡ 0)
+zeros_largest p = (λ e. (none_larger p 0 e).1, λ e. ap (fold max 0) e ∙ largest_zero (length p))
+  where
+    largest_zero : (n : ℕ) → fold max 0 (replicate n 0) ≡ 0
+    largest_zero zero = refl
+    largest_zero (suc n) = largest_zero n
 
 -- a part s[a..e]
 module _ (s : List ℕ) (a e : ℕ) (le : a ≤ e) (fits : e ≤ length s) where
@@ -99,9 +112,6 @@ module _ (s : List ℕ) (a e : ℕ) (le : a ≤ e) (fits : e ≤ length s) where
 
 count_more : (b : ℕ → Bool) (n : ℕ) → count b (n + 1) ≡ num (b n) + count b n
 count_more b n = rw add-one
-
-pub counted_none : (b : ℕ → Bool) → Counted b 1 0
-counted_none b = record { few = omega arith; all = refl }
 
 pub counted_in : (b : ℕ → Bool) (n k : ℕ) → Counted b n k → b n ≡ true → Counted b (n + 1) (k + 1)
 counted_in b n k c e = record { few = omega (arith, c.few); all = omega (arith, count_more b n, c.all, ap num e) }

@@ -16,8 +16,8 @@ use Rattle.layout.specs.Fields.{fields_of}
 use Rattle.layout.specs.View.{tree_f, view_f, view}
 use Rattle.layout.specs.Sound.{Whole}
 use Rattle.layout.specs.Made.{IsMade}
-use Rattle.layout.proofs.Laws.{node_in}
-use Rattle.layout.proofs.SoundLaws.{sound_view, sound_ranked}
+use Rattle.layout.proofs.Laws.{node_in, of_buffer}
+use Rattle.layout.proofs.SoundLaws.{sound_fit, sound_view, sound_ranked, depth_few}
 use Rattle.layout.proofs.WalkLaws.{made_seen, seen_made, made_room, focus_made}
 use Rattle.layout.proofs.Reading.{top_up, up_is, up_made}
 use Rattle.layout.proofs.RouteLaws.{moves_entered, meet_top, meet_up, below_meet, meet_over, below_over}
@@ -48,6 +48,13 @@ module _ (s : List ℕ) (ok : Whole s) where
   pub depth_is : (a : ℕ) → IsMade s a → depth_n (node_of s a) ≡ depth_at s a
   unfolding view view_f tree_f fields_of
   depth_is a m = ap depth_n (sym (node_in s a (made_room s ok a m)))
+
+  -- and small: two of them, or twice one, are a number of 16 bits
+  pub depth_small : (a : ℕ) → IsMade s a → depth_n (node_of s a) ≤ 2048
+  unfolding fields_of
+  depth_small a m =
+      let few = depth_few (fields_of s) (of_buffer s (sound_fit s ok)) ok.fields.shape a in
+      omega (arith, few, ok.fields.shape.head, ap depth_n (node_in s a (made_room s ok a m)))
 
   -- only the top has none above it
   top_depth : depth_at s 0 ≡ 0

@@ -1,7 +1,8 @@
 -- Reading from afar, on the bytes of a sound store: the climb to the binding that decides, the climb from the focus to the
 -- last binding below it, and the cell that holds its own value. The rules say that this cell is the deep rule's value
 -- (`peek_shows`); the laws here are what the loops cite. Assumes nothing.
-use Rattle.std.specs.Prelude.{◌≡◌, ◌≢◌, ◌⊎◌, Bool, true, false, cond, eqb, length}
+use Rattle.std.specs.Prelude.{◌≡◌, ◌≢◌, ◌⊎◌, Bool, true, false, cond, eqb, length, None, Some, IfSome}
+use Rattle.std.specs.Prelude as answered
 use Rattle.std.proofs.Math.Path.{refl, sym, ap, subst}
 use Rattle.std.proofs.Common.{◌∙◌, ⊎_elim, arith, ne_eqb, le-leb}
 use Rattle.std.proofs.Math.Logic.{inl, inr}
@@ -21,11 +22,12 @@ use Rattle.rules.proofs.Calls.{peek_shows}
 use Rattle.layout.specs.Records.{vars, room, focus, blank_cell, ProperCell, cell_of, bare_c, node_of, kind_n, parent_n, var_n, post_n, stored_n, top_node}
 use Rattle.layout.specs.Kinds.{within, by_kind, is_out, IsBinding, IsWind, IsNode}
 use Rattle.layout.specs.Fields.{nodes, fields_of, Fit}
-use Rattle.layout.specs.View.{as_cell, what_n, up_n, tree_f, view_f, view}
+use Rattle.layout.specs.View.{as_cell, as_option, what_n, up_n, tree_f, view_f, view}
 use Rattle.layout.specs.Sound.{NodeOk, depth_above, Whole}
 use Rattle.layout.specs.Made.{IsMade}
-use Rattle.layout.proofs.Laws.{node_in, cell_in}
-use Rattle.layout.proofs.SoundLaws.{what_binding, what_wind, what_top, up_node, up_top, sound_fit, sound_headed, sound_view, shape_inners}
+use Rattle.layout.specs.Routes.{OnWay}
+use Rattle.layout.proofs.Laws.{node_in, cell_in, of_buffer}
+use Rattle.layout.proofs.SoundLaws.{what_binding, what_wind, what_top, up_node, up_top, sound_fit, sound_headed, sound_view, shape_inners, path_made}
 use Rattle.layout.proofs.MoveLaws.{inner}
 use Rattle.layout.proofs.WalkLaws.{made_seen, made_room, focus_made, out_up, in_above, parent_made}
 use Rattle.layout.specs.Deciders.{binder_of, FoundAt, Ahead, last_below}
@@ -48,12 +50,12 @@ unfolding binder_of
 not_at what zero n d = refl
 not_at what (suc k) n d = ne_eqb (suc k) n (λ e. d (sym e))
 
--- at n, with `seen` the last binding of x met: what is left of the climb gives what the whole gives
-pub record Seeks (s : List ℕ) (stop x n seen : ℕ) : Type 0 where
+-- at n, with `seen` the last binding of x met, if any: what is left of the climb gives what the whole gives
+pub record Seeks (s : List ℕ) (stop x n : ℕ) (seen : answered.Option ℕ) : Type 0 where
   pub here : IsMade s n
-  pub last : IsMade s seen
+  pub last : IfSome seen (IsMade s)
   pub ahead : Ahead s stop n
-  pub left : seek (view s).tree.what x (binder_of stop) (binder_of seen) (path (view s).tree n) ≡ last_below s stop x
+  pub left : seek (view s).tree.what x (binder_of stop) (as_option seen) (path (view s).tree n) ≡ last_below s stop x
 
 -- ---- whether a node binds x, by its kind
 binds_binding : (p : List ℕ) (x : ℕ) → IsBinding (kind_n p) → binds (what_n p) x ≡ eqb (var_n p) x
@@ -164,9 +166,6 @@ module _ (s : List ℕ) (ok : Whole s) where
   path_next : (n : ℕ) → 1 ≤ n → IsMade s n → path (view s).tree n ≡ n ∷ path (view s).tree (parent_n (node_of s n))
   path_next n l m = path_up (view s).tree proper n (parent_n (node_of s n)) (up_is n l m)
 
-  pub path_falls : (n : ℕ) → 1 ≤ n → IsMade s n → length (path (view s).tree (parent_n (node_of s n))) < length (path (view s).tree n)
-  path_falls n l m = rw (path_next n l m) (omega arith)
-
   -- ---- whether the node n binds x
   pub binds_yes : (n x : ℕ) → IsMade s n → IsBinding (kind_n (node_of s n)) → binds ((view s).tree.what n) x ≡ eqb (var_n (node_of s n)) x
   binds_yes n x m is = ap (λ (w : What). binds w x) (what_is n m) ∙ binds_binding (node_of s n) x is
@@ -178,6 +177,15 @@ module _ (s : List ℕ) (ok : Whole s) where
   binds_high n x m h =
       let k : ℕ = kind_n (node_of s n) in
       ap (λ (w : What). binds w x) (what_is n m) ∙ binds_other (node_of s n) x (rw (le-leb 2 k (omega arith), lt-leb k 3 h))
+
+  -- the top is on the way of the focus, and so is what is ahead of it
+  pub top_on_way : OnWay s 0
+  top_on_way = record { made = top_made; over = inl (top_up s ok) }
+
+  pub ahead_on_way : (stop : ℕ) → Ahead s stop (focus s) → OnWay s stop
+  unfolding view view_f fields_of IsMade
+  ahead_on_way stop (inl z) = rw z top_on_way
+  ahead_on_way stop (inr h) = record { made = path_made (fields_of s) (of_buffer s (sound_fit s ok)) ok.fields.shape (focus s) stop h; over = inr h }
 
   -- ---- the climb to the decider
   pub decider_top : (x : ℕ) → decider_at (view s).tree 0 x ≡ none
@@ -193,11 +201,11 @@ module _ (s : List ℕ) (ok : Whole s) where
   decider_up n x l m e = rw (path_next n l m, e)
 
   -- ---- the climb from the focus
-  pub seeks_start : (stop x : ℕ) → Ahead s stop (focus s) → Seeks s stop x (focus s) 0
-  unfolding last_below binder_of
+  pub seeks_start : (stop x : ℕ) → Ahead s stop (focus s) → Seeks s stop x (focus s) None
+  unfolding last_below
   seeks_start stop x h = record {
     here = focus_made s ok;
-    last = top_made;
+    last = tt;
     ahead = h;
     left = seek_below (view s).tree.what x (binder_of stop) none (path (view s).tree (focus s)) ∙ none_seen (below (view s).tree.what x (binder_of stop) (path (view s).tree (focus s)));
   }
@@ -207,7 +215,7 @@ module _ (s : List ℕ) (ok : Whole s) where
       none_seen (some n) = refl
 
   -- short of `stop` there is a node above
-  pub seeks_inner : {stop x n seen : ℕ} → Seeks s stop x n seen → n ≢ stop → 1 ≤ n
+  pub seeks_inner : {stop x n : ℕ} {seen : answered.Option ℕ} → Seeks s stop x n seen → n ≢ stop → 1 ≤ n
   seeks_inner {stop} {x} {n} {seen} c d = go (ℕ_discrete n 0) c.ahead
     where
       go : Dec (n ≡ 0) → Ahead s stop n → 1 ≤ n
@@ -216,8 +224,8 @@ module _ (s : List ℕ) (ok : Whole s) where
       go (yes z) (inr e) = clash e (ap (λ (m : ℕ). on stop (path (view s).tree m)) z ∙ ap (on stop) path_none)
 
   -- one node up
-  pub seeks_up : {stop x n seen : ℕ} (next : ℕ) → Seeks s stop x n seen → n ≢ stop → IsMade s next
-      → cond (binds ((view s).tree.what n) x) (some n) (binder_of seen) ≡ binder_of next → Seeks s stop x (parent_n (node_of s n)) next
+  pub seeks_up : {stop x n : ℕ} {seen : answered.Option ℕ} (next : answered.Option ℕ) → Seeks s stop x n seen → n ≢ stop → IfSome next (IsMade s)
+      → cond (binds ((view s).tree.what n) x) (some n) (as_option seen) ≡ as_option next → Seeks s stop x (parent_n (node_of s n)) next
   seeks_up {stop} {x} {n} {seen} next c d m e = record { here = up_made n inner c.here; last = m; ahead = on_ahead c.ahead; left = sym passed ∙ c.left }
     where
       inner : 1 ≤ n
@@ -231,14 +239,14 @@ module _ (s : List ℕ) (ok : Whole s) where
           go (inl z) = absurd (d (sym z))
           go (inr k) = inr k
 
-      passed : seek (view s).tree.what x (binder_of stop) (binder_of seen) (path (view s).tree n)
-          ≡ seek (view s).tree.what x (binder_of stop) (binder_of next) (path (view s).tree (parent_n (node_of s n)))
+      passed : seek (view s).tree.what x (binder_of stop) (as_option seen) (path (view s).tree n)
+          ≡ seek (view s).tree.what x (binder_of stop) (as_option next) (path (view s).tree (parent_n (node_of s n)))
       passed = rw (path_next n inner c.here, not_at (view s).tree.what stop n d, e)
 
-  pub seeks_done : {stop x seen : ℕ} → Seeks s stop x stop seen → binder_of seen ≡ last_below s stop x
+  pub seeks_done : {stop x : ℕ} {seen : answered.Option ℕ} → Seeks s stop x stop seen → as_option seen ≡ last_below s stop x
   seeks_done {stop} {x} {seen} c = sym (go (ℕ_discrete stop 0)) ∙ c.left
     where
-      go : Dec (stop ≡ 0) → seek (view s).tree.what x (binder_of stop) (binder_of seen) (path (view s).tree stop) ≡ binder_of seen
+      go : Dec (stop ≡ 0) → seek (view s).tree.what x (binder_of stop) (as_option seen) (path (view s).tree stop) ≡ as_option seen
       go (yes z) = rw (z, path_none)
       go (no z) = rw (path_next stop (omega arith) c.here, binder_inner stop (omega arith), eqb_self stop)
 
@@ -289,20 +297,13 @@ module _ (s : List ℕ) (ok : Whole s) where
       go (inr h) = rw h
 
   -- which stores it, and where there is none the cell holds it
-  pub peek_some : (d x k : ℕ) → IsMade s d → is_out (kind_n (node_of s d)) ≡ false → k ≢ 0 → IsMade s k → binder_of k ≡ last_below s d x
+  pub peek_some : (d x k : ℕ) → IsMade s d → is_out (kind_n (node_of s d)) ≡ false → IsMade s k → some k ≡ last_below s d x
       → peek_of (view s) x (binder_of d) ≡ as_cell (stored_n (node_of s k))
-  peek_some d x k m e l h b =
-      peek_in d x m e
-      ∙ ap (value_by (view s).values x) (sym b ∙ binder_inner k (omega arith))
-      ∙ stored_is k h
+  peek_some d x k m e h b = peek_in d x m e ∙ ap (value_by (view s).values x) (sym b) ∙ stored_is k h
 
-  pub peek_none : (d x k : ℕ) → IsMade s d → is_out (kind_n (node_of s d)) ≡ false → k ≡ 0 → x < vars s → binder_of k ≡ last_below s d x
+  pub peek_none : (d x : ℕ) → IsMade s d → is_out (kind_n (node_of s d)) ≡ false → x < vars s → none ≡ last_below s d x
       → peek_of (view s) x (binder_of d) ≡ as_cell (bare_c (cell_of s x))
-  unfolding binder_of
-  peek_none d x k m e z h b =
-      peek_in d x m e
-      ∙ ap (value_by (view s).values x) (sym b ∙ ap binder_of z)
-      ∙ cell_is x h
+  peek_none d x m e h b = peek_in d x m e ∙ ap (value_by (view s).values x) (sym b) ∙ cell_is x h
 
   -- for one that is out, it is its stored cell
   pub peek_out : (d x : ℕ) → IsMade s d → is_out (kind_n (node_of s d)) ≡ true → peek_of (view s) x (binder_of d) ≡ as_cell (stored_n (node_of s d))

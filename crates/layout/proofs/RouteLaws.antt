@@ -1,13 +1,13 @@
 -- Climbing from a target to its parent, and from the focus to its parent: what becomes of the moves and events that remain.
 -- Assumes nothing.
-use Rattle.std.specs.Prelude.{◌≡◌, ◌≢◌, ◌⊎◌, Bool, true, false, cond, ℕ, zero, suc, ◌+◌, ◌≤◌, ◌<◌, leb, eqb, length}
+use Rattle.std.specs.Prelude.{◌≡◌, ◌≢◌, ◌⊎◌, Bool, true, false, cond, ◌||◌, ℕ, zero, suc, ◌+◌, ◌≤◌, ◌<◌, leb, eqb, length}
 use Rattle.std.proofs.Math.Path.{refl, ap}
 use Rattle.std.proofs.Common.{sym, ◌∙◌, inl, inr, le_refl, arith, length-append, leb-true}
 use Rattle.std.proofs.Math.Option.{Option, none, some}
 use mathlib.Core.List.{List, [], ◌∷◌, ◌++◌, append-nil, map}
 use Rattle.std.proofs.lemmas.List.{length-map}
 use Rattle.rules.specs.Basic.{on}
-use Rattle.rules.proofs.Basic.{clash, on_cases}
+use Rattle.rules.proofs.Basic.{clash, on_head, on_cases}
 use Rattle.rules.specs.Apart.{apart}
 use Rattle.rules.proofs.Apart.{apart_self}
 use Rattle.rules.specs.Tree.{What, blank, top, binding, wind, Tree, Proper, climb, path}
@@ -28,6 +28,13 @@ use Rattle.layout.proofs.SoundLaws.{sound_fit, sound_view, depth_few}
 use Rattle.layout.proofs.WalkLaws.{made_seen, seen_made, made_room, focus_made, seen_focus, out_up, in_above, parent_seen, parent_made}
 use Rattle.layout.specs.Routes.{first_on, meet, Over, moves_from, moves_to, left_events, entered_events, meeting, OnWay, Climbing}
 use Rattle.layout.specs.Events.{events_from, events_to}
+
+on_more : (n m : ℕ) (l : List ℕ) → on n l ≡ true → on n (m ∷ l) ≡ true
+on_more n m l h = go (eqb n m) h
+  where
+    go : (b : Bool) {c : Bool} → c ≡ true → (b || c) ≡ true
+    go true e = refl
+    go false e = e
 
 -- ---- on the tree
 module _ (t : Tree) (ok : Proper t) where
@@ -87,6 +94,21 @@ module _ (t : Tree) (ok : Proper t) where
             go : (b : Bool) → on a (path t f) ≡ b → (t.what (meet t f a) ≢ blank) × Over t (meet t f a) f
             go true h = rw (meet_on a h) (made, inr h)
             go false h = rw (meet_up a p e h) (ih (ok.made_up a p e))
+
+  -- the meeting point is on the way of a too
+  pub meet_under : (f a : ℕ) → t.what a ≢ blank → Over t (meet t f a) a
+  meet_under f = downward t ok (λ a. t.what a ≢ blank → Over t (meet t f a) a) (λ a e made. rw (meet_top f a made e) (inl e)) up_one
+    where
+      up_one : (a p : ℕ) → t.up a ≡ some p → (t.what p ≢ blank → Over t (meet t f p) p) → t.what a ≢ blank → Over t (meet t f a) a
+      up_one a p e ih made = go (on a (path t f)) refl
+        where
+          further : Over t (meet t f p) p → Over t (meet t f p) a
+          further (inl u) = inl u
+          further (inr h) = inr (rw (path_up t ok a p e) (on_more (meet t f p) a (path t p) h))
+
+          go : (b : Bool) → on a (path t f) ≡ b → Over t (meet t f a) a
+          go true h = rw (meet_on f a h) (inr (rw (path_up t ok a p e) (on_head a (path t p))))
+          go false h = rw (meet_up f a p e h) (further (ih (ok.made_up a p e)))
 
   -- a node below m has a parent below or at m, and is not on the way of m
   pub below_over : (m g : ℕ) → t.what m ≢ blank → t.what g ≢ blank → Over t m g → g ≢ m → (p : ℕ) × (t.up g ≡ some p) × (on g (path t m) ≡ false) × Over t m p
@@ -282,9 +304,6 @@ module _ (s : List ℕ) (ok : Whole s) where
           let all = ap length r.events ∙ length-append (left_events s g) (events_from s p m) in
           let bit = length_event t (left g) ∙ ap is_wind (what_node g at.made) in
           record { made = r.made; over = r.over; moved = omega (arith, at.moved, r.moves); told = omega (arith, at.told) }
-
-      pub rising_less : g ≢ m → (p : ℕ) → p ≡ parent_n (records.node_of s g) → moves_from s p m < moves_from s g m
-      rising_less d p e = omega (arith, (risen m way g at.made at.over d p e).moves)
 
       pub rising_end : g ≡ m → (moves ≡ moves_to s m) × (events ≡ length (events_to s m))
       rising_end e =

@@ -1,6 +1,7 @@
 -- What a step of a walk leaves (document 02, W5): its leg is gone to its stop; where an event is handed over the walk goes on, else
 -- it is over. Assumes nothing.
-use Rattle.std.specs.Prelude.{◌≡◌, ◌≢◌, true, false, ℕ, ◌<◌, List, [], ◌∷◌, ◌++◌}
+use Rattle.std.specs.Prelude.{◌≡◌, ◌≢◌, true, false, ℕ, ◌<◌, List, [], ◌∷◌, ◌++◌, None, Some}
+use Rattle.std.specs.Prelude as answered
 use Rattle.std.proofs.Math.Path.{refl, ap}
 use Rattle.std.proofs.Common.{sym, subst, ◌∙◌}
 use Rattle.std.proofs.Math.Option.{Option, none, some}
@@ -16,7 +17,7 @@ use Rattle.rules.specs.Stops.{Stepped}
 use Rattle.rules.proofs.Stops.{stepped, moves_end, leg_route}
 use Rattle.rules.specs.Act.{goes_on}
 use Rattle.layout.specs.Limits.{none_n}
-use Rattle.layout.specs.Records.{focus, target, handed, node_of, kind_n, parent_n, var_n, post_n}
+use Rattle.layout.specs.Records.{focus, target, handed, node_of, kind_n, var_n, post_n}
 use Rattle.layout.specs.Fields.{fields_of}
 use Rattle.layout.specs.Kinds.{IsWind}
 use Rattle.layout.specs.View.{view_f, view, or_none, walk_of}
@@ -28,8 +29,8 @@ use Rattle.layout.proofs.WalkLaws.{sized_self, made_seen, seen_made, parent_seen
 use Rattle.layout.proofs.RouteLaws.{what_node, wind_kind, few_moves}
 use Rattle.layout.proofs.TellLaws.{parent, left_wind, entered_wind}
 use Rattle.layout.proofs.StrideLaws.{Rewalked}
-use Rattle.layout.proofs.HandedLaws.{top_kind, walking_at, target_made, under_way_lem, walks, over}
-use Rattle.layout.specs.Legs.{FirstWind, no_wind, that_wind, Above}
+use Rattle.layout.proofs.HandedLaws.{walking_at, target_made, under_way_lem, walks, over}
+use Rattle.layout.specs.Legs.{WindAt, place_of, Above}
 use Rattle.layout.proofs.StopLaws.{leg_left, leg_entered, leg_arrives}
 use Rattle.layout.specs.Legs.{Moved, enters_first}
 use Rattle.layout.proofs.LegLaws.{moved_then, moved_made}
@@ -61,10 +62,10 @@ pub record LegIs (s : List ℕ) (a g : ℕ) (es : List Event) (h : Option ℕ) :
 
 -- the events of leaving and of entering the wind w, by its record
 abbrev pub leaving : List ℕ → ℕ → Event
-leaving s w = record { entering = false; thunk = post_n (node_of s w); place = parent_n (node_of s w) }
+leaving s w = record { entering = false; thunk = post_n (node_of s w); place = place_of s w }
 
 abbrev pub entering : List ℕ → ℕ → Event
-entering s w = record { entering = true; thunk = var_n (node_of s w); place = parent_n (node_of s w) }
+entering s w = record { entering = true; thunk = var_n (node_of s w); place = place_of s w }
 
 module _ (s : List ℕ) (ok : Whole s) (a : ℕ) (made : IsMade s a) where
   abbrev t : Tree
@@ -104,58 +105,37 @@ module _ (s : List ℕ) (ok : Whole s) (a : ℕ) (made : IsMade s a) where
   wind_record : (w : ℕ) → is_wind (t.what w) ≡ 1 → IsWind (kind_n (node_of s w))
   wind_record w is = wind_kind (node_of s w) (sym (ap is_wind (what_node s ok w (wind_made w is))) ∙ is)
 
-  wind_up : (w : ℕ) → is_wind (t.what w) ≡ 1 → t.up w ≡ some (parent_n (node_of s w))
+  wind_up : (w : ℕ) → is_wind (t.what w) ≡ 1 → t.up w ≡ some (place_of s w)
   wind_up w is = parent s ok w (wind_made w is) (wind_record w is)
 
-  -- the top is none
-  not_top : (w : ℕ) → is_wind (t.what w) ≡ 1 → w ≡ 0 → ⊥
-  not_top w is e = omega (arith, top_kind s ok, ap (λ (n : ℕ). kind_n (node_of s n)) e, wind_record w is)
+  -- the first wind on the focus's way up is left
+  pub leaves : (m : ℕ) (o : answered.Option ℕ) → Above s a m o → (w : ℕ) → WindAt t left (route t f m) w → IsMade s w × LegIs s a (place_of s w) (leaving s w ∷ []) none
+  leaves m o above w first =
+      let l = leg_left t f a m above.passed above.way w first.pre first.post first.split first.quiet first.wind in (
+        wind_made w first.wind,
+        leg_by (place_of s w) (leaving s w ∷ []) none (ap (λ (k : Leg). end_of t f k.moves) l ∙ ends_left t f w first.pre ∙ ap or_top (wind_up w first.wind))
+            (ap (λ (k : Leg). k.events) l ∙ left_wind s ok w (wind_made w first.wind) (wind_record w first.wind)) (ap (λ (k : Leg). k.handed) l),
+      )
 
-  module _ (m v w : ℕ) (first : FirstWind t left (route t f m) v) (above : Above s a m w) where
-    -- the first wind on the focus's way up is left
-    pub leaves : v ≢ 0 → IsMade s v × LegIs s a (parent_n (node_of s v)) (leaving s v ∷ []) none
-    leaves d = go first
-      where
-        go : FirstWind t left (route t f m) v → IsMade s v × LegIs s a (parent_n (node_of s v)) (leaving s v ∷ []) none
-        go (no_wind e q) = absurd (d e)
-        go (that_wind pre post e q is) =
-            let l = leg_left t f a m above.passed above.way v pre post e q is in (
-              wind_made v is,
-              leg_by (parent_n (node_of s v)) (leaving s v ∷ []) none (ap (λ (k : Leg). end_of t f k.moves) l ∙ ends_left t f v pre ∙ ap or_top (wind_up v is))
-                  (ap (λ (k : Leg). k.events) l ∙ left_wind s ok v (wind_made v is) (wind_record v is)) (ap (λ (k : Leg). k.handed) l),
-            )
-
-    none_left : v ≡ 0 → trace t (route t f m) ≡ []
-    none_left e = go first
-      where
-        go : FirstWind t left (route t f m) v → trace t (route t f m) ≡ []
-        go (no_wind z q) = q
-        go (that_wind pre post z q is) = absurd (not_top v is e)
-
-    -- none is left, and the outermost wind to be entered waits for it
-    pub enters : v ≡ 0 → w ≢ 0 → IsMade s w × LegIs s a (parent_n (node_of s w)) (entering s w ∷ []) (some w)
-    enters e d = go above.first
-      where
-        go : FirstWind t entered above.passed w → IsMade s w × LegIs s a (parent_n (node_of s w)) (entering s w ∷ []) (some w)
-        go (no_wind z q) = absurd (d z)
-        go (that_wind pre post z q is) =
-            let l = leg_entered t f a m above.passed above.way (none_left e) w pre post z q is in
-            let handed = ap (λ (k : Leg). k.handed) l in
-            let up = (subst (Handed t (end_of t f (leg_from s a).moves) a) handed leg_stops.sound).0 in (
-              wind_made w is,
-              leg_by (parent_n (node_of s w)) (entering s w ∷ []) (some w) (sym (parent_seen s ok w _ up)) (ap (λ (k : Leg). k.events) l ∙ entered_wind s ok w (wind_made w is) (wind_record w is)) handed,
-            )
+  -- none is left, and the outermost wind to be entered waits for it
+  module _ (m : ℕ) (none_left : trace t (route t f m) ≡ []) where
+    pub enters : (w : ℕ) → Above s a m (Some w) → IsMade s w × LegIs s a (place_of s w) (entering s w ∷ []) (some w)
+    enters w above =
+        let first = above.first in
+        let l = leg_entered t f a m above.passed above.way none_left w first.pre first.post first.split first.quiet first.wind in
+        let handed = ap (λ (k : Leg). k.handed) l in
+        let up = (subst (Handed t (end_of t f (leg_from s a).moves) a) handed leg_stops.sound).0 in (
+          wind_made w first.wind,
+          leg_by (place_of s w) (entering s w ∷ []) (some w) (sym (parent_seen s ok w _ up))
+              (ap (λ (k : Leg). k.events) l ∙ entered_wind s ok w (wind_made w first.wind) (wind_record w first.wind)) handed,
+        )
 
     -- no wind at all
-    pub reaches : v ≡ 0 → w ≡ 0 → LegIs s a a [] none
-    reaches e z = go above.first
-      where
-        go : FirstWind t entered above.passed w → LegIs s a a [] none
-        go (no_wind y q) =
-            let l = leg_arrives t f a m above.passed above.way (none_left e) q in
-            let events = ap (λ (k : Leg). k.events) l in
-            leg_by a [] none (leg_stops.arrives events).0 events (ap (λ (k : Leg). k.handed) l)
-        go (that_wind pre post y q is) = absurd (not_top w is z)
+    pub reaches : Above s a m None → LegIs s a a [] none
+    reaches above =
+        let l = leg_arrives t f a m above.passed above.way none_left above.first in
+        let events = ap (λ (k : Leg). k.events) l in
+        leg_by a [] none (leg_stops.arrives events).0 events (ap (λ (k : Leg). k.handed) l)
 
   -- so it is gone when its stop is reached, with the wind that waits in the header; or when the walk is over
   module _ {u : List ℕ} {g : ℕ} {h : Option ℕ} where

@@ -1,7 +1,7 @@
 -- Where a step of a walk stops, as the code finds it (document 02, W5): the first wind on the focus's way up to the meeting point is
 -- left; where there is none, the outermost wind on the target's way down from there is to be entered; else the target is reached.
 -- Assumes nothing.
-use Rattle.std.specs.Prelude.{◌≡◌, refl, ◌≢◌, ◌⊎◌, true, ℕ, ◌<◌, length}
+use Rattle.std.specs.Prelude.{◌≡◌, refl, ◌≢◌, ◌⊎◌, true, ℕ, ◌<◌, length, Option, None, Some, IfSome}
 use Rattle.std.proofs.Common.{sym, ◌∙◌, inl, inr, arith}
 use Rattle.std.proofs.Math.Path.{ap}
 use Rattle.std.proofs.Math.Bool.{false}
@@ -23,14 +23,14 @@ use Rattle.layout.specs.View.{view_f, view}
 use Rattle.layout.specs.Fields.{fields_of}
 use Rattle.layout.specs.Sound.{Whole}
 use Rattle.layout.specs.Made.{IsMade}
-use Rattle.layout.specs.Routes.{moves_from, moves_to, meeting, Over, OnWay}
+use Rattle.layout.specs.Routes.{moves_to, meeting, Over, OnWay}
 use Rattle.layout.proofs.SoundLaws.{what_wind, sound_fit}
 use Rattle.layout.proofs.Laws.{node_in, of_buffer}
 use Rattle.layout.proofs.MoveLaws.{inner}
 use Rattle.layout.proofs.CheckLaws.{ins_focus, sound_rises}
 use Rattle.layout.proofs.WalkLaws.{made_seen, made_room, focus_made, out_up, in_above, parent_made, parent_seen}
-use Rattle.layout.proofs.RouteLaws.{proper, what_node, out_off, in_meets, below_over, meet_up, moves_entered, plain, risen}
-use Rattle.layout.specs.Legs.{FirstWind, no_wind, that_wind, Picks, Stops, Above}
+use Rattle.layout.proofs.RouteLaws.{proper, what_node, out_off, in_meets, below_over, meet_up, moves_entered, plain}
+use Rattle.layout.specs.Legs.{WindAt, FirstWind, place_of, StopsAt, Above}
 
 -- no event of a node that is no wind, one of a wind
 quiet : (t : Tree) (m : Move) → is_wind (t.what (node_of m)) ≡ 0 → event_of t m ≡ []
@@ -43,8 +43,8 @@ quiet t m h = go (event_of t m) (length_event t m ∙ h)
 quiet_first : (t : Tree) (m : Move) (ms : List Move) → is_wind (t.what (node_of m)) ≡ 0 → trace t ms ≡ [] → trace t (m ∷ ms) ≡ []
 quiet_first t m ms h k = (λ i. quiet t m h i ++ k i)
 
-stops_at : (s : List ℕ) {p q m : ℕ} → p ≡ q → IsMade s p → meeting s p ≡ m → IsMade s q × (meeting s q ≡ m)
-stops_at s e made met = (rw (← e) made, rw (← e) met)
+stops_at : (s : List ℕ) {p w m : ℕ} → p ≡ place_of s w → IsMade s p → meeting s p ≡ m → StopsAt s w m
+stops_at s e made met = record { made = rw (← e) made; met = rw (← e) met }
 
 -- the climb from the focus towards m has come to g, over no wind
 pub record Below (s : List ℕ) (m g : ℕ) : Type 0 where
@@ -80,10 +80,7 @@ module _ (s : List ℕ) (ok : Whole s) where
   f = focus s
 
   -- ---- the climb from the target
-  pub above_start : (a : ℕ) → IsMade s a → Above s a a 0
-  above_start a m = record { made = m; same = refl; passed = []; way = sym (append-nil (route t f a)); first = no_wind refl refl; stop = inl refl }
-
-  module _ (a c w : ℕ) (at : Above s a c w) (out : is_out (kind_n (records.node_of s c)) ≡ true) (p : ℕ) (named : p ≡ parent_n (records.node_of s c)) where
+  module _ (a c : ℕ) (o : Option ℕ) (at : Above s a c o) (out : is_out (kind_n (records.node_of s c)) ≡ true) (p : ℕ) (named : p ≡ parent_n (records.node_of s c)) where
     up : t.up c ≡ some p
     up = (out_up s ok c at.made out).0 ∙ ap some (sym named)
 
@@ -97,7 +94,7 @@ module _ (s : List ℕ) (ok : Whole s) where
     met : meeting s p ≡ meeting s a
     met = sym (meet_up t (proper s ok) f c p up off) ∙ at.same
 
-    above_by : (v : ℕ) → FirstWind t entered (entered c ∷ at.passed) v → Stops s v (meeting s a) → Above s a p v
+    above_by : (v : Option ℕ) → FirstWind t entered (entered c ∷ at.passed) v → IfSome v (λ w. StopsAt s w (meeting s a)) → Above s a p v
     above_by v h stop = record {
       made = parent_made s ok c p up;
       same = met;
@@ -108,29 +105,34 @@ module _ (s : List ℕ) (ok : Whole s) where
     }
 
     -- over a wind, and over any other node
-    pub above_wind : IsWind (kind_n (records.node_of s c)) → Above s a p c
-    above_wind is = above_by c (that_wind [] at.passed refl refl (ap is_wind (what_node s ok c at.made ∙ what_wind (records.node_of s c) is))) (inr (stops_at s named (parent_made s ok c p up) met))
+    pub above_wind : IsWind (kind_n (records.node_of s c)) → Above s a p (Some c)
+    above_wind is = above_by (Some c) first (stops_at s named (parent_made s ok c p up) met)
+      where
+        first : WindAt t entered (entered c ∷ at.passed) c
+        first = record { pre = []; post = at.passed; split = refl; quiet = refl; wind = ap is_wind (what_node s ok c at.made ∙ what_wind (records.node_of s c) is) }
 
-    pub above_plain : (IsWind (kind_n (records.node_of s c)) → ⊥) → Above s a p w
-    above_plain is_not = above_by w (go at.first) at.stop
+    pub above_plain : (IsWind (kind_n (records.node_of s c)) → ⊥) → Above s a p o
+    above_plain is_not = above_by o (go o at.first) at.stop
       where
         still : is_wind (t.what c) ≡ 0
         still = ap is_wind (what_node s ok c at.made) ∙ plain (records.node_of s c) is_not
 
-        go : FirstWind t entered at.passed w → FirstWind t entered (entered c ∷ at.passed) w
-        go (no_wind e h) = no_wind e (quiet_first t (entered c) at.passed still h)
-        go (that_wind pre post e h k) = that_wind (entered c ∷ pre) post (ap (λ (l : List Move). entered c ∷ l) e) (quiet_first t (entered c) pre still h) k
+        go : (v : Option ℕ) → FirstWind t entered at.passed v → FirstWind t entered (entered c ∷ at.passed) v
+        go None h = quiet_first t (entered c) at.passed still h
+        go (Some w) h = record {
+          pre = entered c ∷ h.pre;
+          post = h.post;
+          split = ap (λ (l : List Move). entered c ∷ l) h.split;
+          quiet = quiet_first t (entered c) h.pre still h.quiet;
+          wind = h.wind;
+        }
 
-  pub above_up : (a c w : ℕ) → Above s a c w → is_out (kind_n (records.node_of s c)) ≡ true → (v : ℕ) → Picks s c w v → (p : ℕ) → p ≡ parent_n (records.node_of s c) → Above s a p v
-  above_up a c w at out v (inl (is, e)) p named = rw e (above_wind a c w at out p named is)
-  above_up a c w at out v (inr (is_not, e)) p named = rw e (above_plain a c w at out p named is_not)
-
-  pub above_less : (a c w : ℕ) → Above s a c w → is_out (kind_n (records.node_of s c)) ≡ true → (p : ℕ) → p ≡ parent_n (records.node_of s c) → moves_to s p < moves_to s c
-  above_less a c w at out p named =
+  pub above_less : (a c : ℕ) (o : Option ℕ) → Above s a c o → is_out (kind_n (records.node_of s c)) ≡ true → (p : ℕ) → p ≡ parent_n (records.node_of s c) → moves_to s p < moves_to s c
+  above_less a c o at out p named =
       omega (arith, moves_entered t (proper s ok) f c p ((out_up s ok c at.made out).0 ∙ ap some (sym named)) (out_off s ok c at.made out))
 
-  pub above_end : (a c w : ℕ) → Above s a c w → is_out (kind_n (records.node_of s c)) ≡ false → c ≡ meeting s a
-  above_end a c w at i = sym (in_meets s ok c at.made i) ∙ at.same
+  pub above_end : (a c : ℕ) (o : Option ℕ) → Above s a c o → is_out (kind_n (records.node_of s c)) ≡ false → c ≡ meeting s a
+  above_end a c o at i = sym (in_meets s ok c at.made i) ∙ at.same
 
   -- ---- the climb from the focus
   module _ (m : ℕ) (on_way : OnWay s m) where
@@ -149,13 +151,17 @@ module _ (s : List ℕ) (ok : Whole s) where
       rises : is_out (kind_n (records.node_of s p)) ≡ false
       rises = parent_inside s ok g p at.made at.inside next.0
 
-      pub below_stops : Stops s g p
-      below_stops = inr (stops_at s named (parent_made s ok g p next.0) (in_meets s ok p (parent_made s ok g p next.0) rises))
+      pub below_stops : StopsAt s g p
+      below_stops = stops_at s named (parent_made s ok g p next.0) (in_meets s ok p (parent_made s ok g p next.0) rises)
 
-      pub below_wind : IsWind (kind_n (records.node_of s g)) → FirstWind t left (route t f m) g
-      below_wind is =
-          that_wind at.passed (route t p m) (at.way ∙ ap (λ (l : List Move). at.passed ++ l) next.1) at.quiet
-          (ap is_wind (what_node s ok g at.made ∙ what_wind (records.node_of s g) is))
+      pub below_wind : IsWind (kind_n (records.node_of s g)) → WindAt t left (route t f m) g
+      below_wind is = record {
+        pre = at.passed;
+        post = route t p m;
+        split = at.way ∙ ap (λ (l : List Move). at.passed ++ l) next.1;
+        quiet = at.quiet;
+        wind = ap is_wind (what_node s ok g at.made ∙ what_wind (records.node_of s g) is);
+      }
 
       pub below_plain : (IsWind (kind_n (records.node_of s g)) → ⊥) → Below s m p
       below_plain is_not = record {
@@ -170,12 +176,9 @@ module _ (s : List ℕ) (ok : Whole s) where
           still : is_wind (t.what g) ≡ 0
           still = ap is_wind (what_node s ok g at.made) ∙ plain (records.node_of s g) is_not
 
-    pub below_less : (g : ℕ) → Below s m g → g ≢ m → (p : ℕ) → p ≡ parent_n (records.node_of s g) → moves_from s p m < moves_from s g m
-    below_less g at d p named = omega (arith, (risen s ok m on_way g at.made at.over d p named).moves)
-
-    pub below_end : (g : ℕ) → Below s m g → g ≡ m → FirstWind t left (route t f m) 0
+    pub below_end : (g : ℕ) → Below s m g → g ≡ m → trace t (route t f m) ≡ []
     below_end g at e =
-        no_wind refl (ap (trace t) (at.way ∙ ap (λ (n : ℕ). at.passed ++ route t n m) e ∙ ap (λ (l : List Move). at.passed ++ l) (route_self t (proper s ok) m) ∙ append-nil at.passed) ∙ at.quiet)
+        ap (trace t) (at.way ∙ ap (λ (n : ℕ). at.passed ++ route t n m) e ∙ ap (λ (l : List Move). at.passed ++ l) (route_self t (proper s ok) m) ∙ append-nil at.passed) ∙ at.quiet
 
 -- ---- what the step does, by the first wind of either climb: the way is the way to the meeting point m, then what was passed
 one_event : (t : Tree) (m : Move) → is_wind (t.what (node_of m)) ≡ 1 → (e : Event) × (event_of t m ≡ e ∷ [])

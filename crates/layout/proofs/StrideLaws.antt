@@ -27,6 +27,21 @@ none_is n e = rw e refl
 pub some_is : (n : ℕ) → (n ≡ none_n → ⊥) → or_none n ≡ some n
 some_is n k = rw (ne_eqb n none_n k)
 
+-- the same, where the code has told which
+pub is_none : (n : ℕ) → none ≡ or_none n → n ≡ none_n
+is_none n e = go (ℕ_discrete n none_n)
+  where
+    go : Dec (n ≡ none_n) → n ≡ none_n
+    go (yes z) = z
+    go (no k) = some≢none (some_is n k) (sym e)
+
+pub is_some : (n : ℕ) {a : ℕ} → some a ≡ or_none n → (a ≡ n) × (n ≡ none_n → ⊥)
+is_some n {a} e = go (ℕ_discrete n none_n)
+  where
+    go : Dec (n ≡ none_n) → (a ≡ n) × (n ≡ none_n → ⊥)
+    go (yes z) = some≢none (sym e) (none_is n z)
+    go (no k) = (let q : some a ≡ some n = e ∙ some_is n k in cc, k)
+
 -- ---- no target: no walk
 pub no_target : (f : Fields) → target_f f ≡ none_n → walk_f f ≡ none
 unfolding walk_f

@@ -1,5 +1,5 @@
 -- Document 01's sentence "A store is sound when", clause by clause. Assumes nothing: these are definitions.
-use Rattle.std.specs.Prelude.{◌≡◌, Bool, true, false, ◌⊎◌, ℕ, suc, ◌≤◌, ◌<◌, List, length}
+use Rattle.std.specs.Prelude.{◌≡◌, Bool, true, false, ◌⊎◌, ℕ, suc, ◌≤◌, ◌<◌, List, length, Option, None, Some}
 use Rattle.rules.specs.Basic.{on}
 use Rattle.rules.specs.Tree.{path}
 use Rattle.rules.specs.Leg.{Walking}
@@ -13,6 +13,11 @@ use Rattle.layout.specs.View.{tree_f, walk_f}
 abbrev pub Says : Bool → Type 0 → Type 0
 Says true P = P
 Says false P = P → ⊥
+
+-- the answer of a test that tells a number beside its yes: one with Q
+abbrev pub SaysWith : Option ℕ → Type 0 → (ℕ → Type 0) → Type 0
+SaysWith None P Q = P → ⊥
+SaysWith (Some k) P Q = P × Q k
 
 -- the node n, where there are v variables and its parent's depth is d: a binding or a wind, a parent below its own number, that
 -- depth plus 1 (document 02, W3), for a binding a variable below V, zero in place of the postlude and a proper stored cell, for a

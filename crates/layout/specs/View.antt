@@ -3,6 +3,8 @@
 -- Assumes nothing: these are definitions.
 use Rattle.std.specs.Prelude.{cond, ℕ, List, eqb, get_or}
 use Rattle.std.proofs.Math.Option.{Option, none, some}
+use Rattle.std.specs.Prelude as answered
+use Rattle.std.specs.Prelude.{None, Some}
 use Rattle.std.specs.Int.{w32}
 use Rattle.std.proofs.Common.{to_z}
 use Rattle.rules.specs.Tree.{What, blank, top, binding, wind, Tree}
@@ -41,6 +43,11 @@ view s = view_f (fields_of s)
 -- the walk under way (document 02, W5): a number in the header, or none
 abbrev pub or_none : ℕ → Option ℕ
 or_none n = cond (eqb n none_n) none (some n)
+
+-- an answer of the code, as the rules have it
+abbrev pub as_option : answered.Option ℕ → Option ℕ
+as_option None = none
+as_option (Some n) = some n
 
 abbrev pub walk_to : Option ℕ → Option ℕ → Option Walk
 walk_to none c = none

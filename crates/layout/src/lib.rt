@@ -3,9 +3,7 @@
 // top cells, and the event in the bytes of a trace.
 #![tactic(auto)]
 
-ghost use Rattle.std.specs.Prelude.{◌≡◌, ◌+◌, ◌*◌};
-ghost use Rattle.std.specs.Int.{w32};
-ghost use Rattle.std.proofs.Common.{of_z};
+ghost use Rattle.std.specs.Prelude.{◌≡◌};
 ghost use Rattle.layout.specs.Limits.{limits};
 ghost use Rattle.layout.specs.Records.{value_c};
 ghost use Rattle.layout.specs.Events.{event_in};
@@ -32,7 +30,7 @@ impl Store {
     pub const EVENT: usize = 5;
 
     // In the header, for no target and for no wind.
-    pub const NONE: usize = 65_535;
+    pub const NONE: u16 = 65_535;
 }
 
 // The constants as one value.
@@ -45,7 +43,7 @@ pub struct Sizes {
     pub bare: usize,
     pub node: usize,
     pub event: usize,
-    pub none: usize,
+    pub none: u16,
 }
 
 // The code's constants are the definitions' numbers.
@@ -64,32 +62,15 @@ pub fn limits() -> Sizes
     }
 }
 
-// The 32 bits of a value, in two's complement.
-fn to_bits(v: i32) -> u32
-    ensures { result ≡ of_z w32 v }
-{
-    if 0 <= v {
-        v as u32
-    } else {
-        4_294_967_295 - (-1 - v) as u32
-    }
-}
-
 // The bare cell of the value v.
 pub fn value_cell(v: i32) -> [u8; Store::BARE]
     ensures { result ≡ value_c v }
 {
-    let b = to_bits(v);
-    [
-        1,
-        (b % 256) as u8,
-        (b / 256 % 256) as u8,
-        (b / 65_536 % 256) as u8,
-        (b / 16_777_216 % 256) as u8,
-    ]
+    let [a, b, c, d] = v.to_le_bytes();
+    [1, a, b, c, d]
 }
 
-// A trace event: entering or leaving, its thunk, and its place.
+// A trace event: entering or leaving, its thunk, and its place. The side is a bool, as the definition `event_in` has it: no value hangs on it.
 #[derive(Clone, Copy)]
 pub struct Event {
     pub entering: bool,
@@ -97,19 +78,14 @@ pub struct Event {
     pub place: u16,
 }
 
-fn number(low: u8, high: u8) -> u16
-    ensures { result ≡ low + 256 * high }
-{
-    low as u16 + 256 * high as u16
-}
-
 // The event in its bytes.
 pub fn event_in(p: [u8; Store::EVENT]) -> Event
     ensures { result ≡ event_in p }
 {
+    let [side, t0, t1, p0, p1] = p;
     Event {
-        entering: p[0] == 1,
-        thunk: number(p[1], p[2]),
-        place: number(p[3], p[4]),
+        entering: side == 1,
+        thunk: u16::from_le_bytes([t0, t1]),
+        place: u16::from_le_bytes([p0, p1]),
     }
 }

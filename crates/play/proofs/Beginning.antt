@@ -1,4 +1,5 @@
 -- From a card that was found good to the beginning of its run: the headings, the top values, the store as open leaves it. Assumes nothing.
+use Rattle.std.specs.Prelude.{Option, Some, ℤ}
 use mathlib.Core.Path.{◌≡◌, refl, sym, ap, subst, ◌∙◌}
 use mathlib.Core.List.{List, [], ◌∷◌, ◌++◌, map}
 use Prim.Native.Nat.{ℕ, ◌+◌, ◌*◌, ◌≤◌, ◌<◌}
@@ -8,14 +9,12 @@ use lib.Seq.{take_at}
 use Rattle.layout.specs.Limits.{max_vars, max_nodes, bare_size, event_size, size_of}
 use Rattle.promises.specs.Answers.{Numbers}
 use Rattle.promises.specs.Promises.{OpenPromise}
-use Rattle.text.specs.declared.line.Cell.{Cell}
 use Rattle.text.specs.declared.line.Line.{Line}
 use Rattle.text.specs.declared.line.Line.TheVariants.{Vars, Nodes, Room, Top, Do}
 use Rattle.text.specs.Every.{All}
 use Rattle.text.specs.Lines.{InRange}
 use Rattle.card.specs.Cards.{Whole, Passes, text}
 use Rattle.play.specs.declared.reading.Heads.{Heads}
-use Rattle.play.specs.declared.reading.Headed.{Headed}
 use Rattle.play.specs.declared.progress.Progress.{Progress}
 use Rattle.play.specs.Output.{tops_b, Runs, stay, Begins}
 use Rattle.play.specs.Steps.{Ahead, Reads, SoFar, Ready, Begun}
@@ -36,11 +35,11 @@ module _ {ls : List Line} (w : Whole ls) where
   few_events = ranges.1.1.0
 
 -- the headings of a good card, read
-pub heads_begun : {card : List ℕ} (g : Passes card) (r : Headed) (h : Heads) → r ≡ Headed.Good h
-    → ((v n m : ℕ) (ls : List Line) → Ahead card 0 (Vars v ∷ Nodes n ∷ Room m ∷ ls) → Reads card v n m ls r)
+pub heads_begun : {card : List ℕ} (g : Passes card) (h : Heads)
+    → ((v n m : ℕ) (ls : List Line) → Ahead card 0 (Vars v ∷ Nodes n ∷ Room m ∷ ls) → Reads card v n m ls (Some h))
     → (tops store trace : ℕ) → bare_size * max_vars ≤ tops → size_of max_vars max_nodes ≤ store → event_size * max_nodes ≤ trace + event_size
     → Begun card h tops store trace
-heads_begun {card} g r h e f tops store trace a b c =
+heads_begun {card} g h f tops store trace a b c =
     record { good = g; vars = q.0; nodes = q.1; room = q.2; ahead = q.3; tops_long = a; store_long = b; trace_long = c }
   where
     w : Whole g.1.lines
@@ -52,8 +51,8 @@ heads_begun {card} g r h e f tops store trace a b c =
     ahead : Ahead card 0 (Vars w.vars ∷ Nodes w.nodes ∷ Room w.room ∷ rest)
     ahead = record { inside = omega arith; bytes = g.1.bytes ∙ ap text w.order; range = ranges w }
 
-    q : Reads card w.vars w.nodes w.room rest (Headed.Good h)
-    q = subst (λ (x : Headed). Reads card w.vars w.nodes w.room rest x) e (f w.vars w.nodes w.room rest ahead)
+    q : Reads card w.vars w.nodes w.room rest (Some h)
+    q = f w.vars w.nodes w.room rest ahead
 
 module _ {card : List ℕ} {h : Heads} {tl sl rl : ℕ} (b : Begun card h tl sl rl) where
   pub vars_few : h.vars ≤ max_vars
@@ -67,7 +66,7 @@ module _ {card : List ℕ} {h : Heads} {tl sl rl : ℕ} (b : Begun card h tl sl 
 
   -- the run begins
   module _ (part tops past store store' t : List ℕ) (at : ℕ) {n : Numbers}
-      (read : (cs : List Cell) (ls : List Line) → bare_size * length cs ≡ length part → Ahead card h.at (map Top cs ++ ls) → (tops ≡ tops_b cs) × Ahead card at ls)
+      (read : (cs : List (Option ℤ)) (ls : List Line) → bare_size * length cs ≡ length part → Ahead card h.at (map Top cs ++ ls) → (tops ≡ tops_b cs) × Ahead card at ls)
       (cells : length part ≡ bare_size * h.vars) (same : length tops ≡ length part)
       (opened : OpenPromise h.vars h.nodes (take (bare_size * h.vars) (tops ++ past)) store store' n) (long : sl ≡ length store)
       (room : length t ≡ event_size * h.room) where

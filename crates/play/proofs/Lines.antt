@@ -1,24 +1,20 @@
 -- Reading the lines of a card one by one: the line that is found at a place is the first of those that stand there. Assumes nothing.
+use Rattle.std.specs.Prelude.{None, Some}
 use mathlib.Core.Path.{◌≡◌, refl, sym, ap, ◌∙◌}
 use mathlib.Core.List.{List, [], ◌∷◌, ◌++◌, append_assoc}
-use Prim.Native.Nat.{ℕ, ◌+◌, ◌-◌, ◌≤◌, ◌<◌}
+use Prim.Native.Nat.{ℕ, ◌+◌, ◌≤◌, ◌<◌}
 use native.Mathlib.Omega.{arith}
-use lib.ListN.{length, take, drop, length-append, length-drop}
+use lib.ListN.{length, drop, length-append, length-drop}
 use lib.Seq.{drop_at, drop-drop}
 use Rattle.text.specs.declared.line.Line.{Line}
-use Rattle.text.specs.declared.line.Next.{Next}
 use Rattle.text.specs.Finds.{Finds, miss, gone, same}
-use Rattle.text.specs.Lines.{written, Leads, next_of}
+use Rattle.text.specs.Lines.{written, Leads}
 use Rattle.card.specs.Cards.{text}
-use Rattle.card.proofs.Rest.{at_place, further}
+use Rattle.card.proofs.Rest.{further}
 use Rattle.play.specs.Steps.{Ahead}
 
--- as the code lends the rest of the card
-pub there : (card : List ℕ) (at : ℕ) (r : Next) → Finds (Leads (take (length card - at) (drop at card))) (next_of r) → Finds (Leads (drop at card)) (next_of r)
-there card at r f = at_place card at {r = r} {q = r} f refl
-
 -- there is no line past the end
-pub past : (card : List ℕ) (at : ℕ) → length card < at → Finds (Leads (drop at card)) (next_of Next.Bad)
+pub past : (card : List ℕ) (at : ℕ) → length card < at → Finds (Leads (drop at card)) None
 past card at h = miss (λ x l. omega (arith, ap length l.text ∙ length-append (written x.0) (10 ∷ l.rest), length-drop at card))
 
 pub at_end : {card : List ℕ} {at : ℕ} → Ahead card at [] → at < length card → ⊥
@@ -28,22 +24,22 @@ leads : {card : List ℕ} {at : ℕ} {x : Line} {ls : List Line} → Ahead card 
 leads {card} {at} {x} {ls} a = record { rest = text ls; text = a.bytes; range = a.range.0; size = refl }
 
 -- the line that is found at a place
-module _ (card : List ℕ) (at : ℕ) {r : Next} where
-  pub within : {l : Line} {n : ℕ} → r ≡ Next.Good l n → Finds (Leads (drop at card)) (next_of r) → at ≤ length card → (0 < n) × (at + n ≤ length card)
-  within {l} {n} e f h = further card at h {l = l} {n = n} (rw e at f)
+module _ (card : List ℕ) (at : ℕ) where
+  pub within : {l : Line} {n : ℕ} → Finds (Leads (drop at card)) (Some (l, n)) → at ≤ length card → (0 < n) × (at + n ≤ length card)
+  within {l} {n} f h = further card at h f
 
-  pub is_missing : {x : Line} {ls : List Line} → r ≡ Next.Bad → Finds (Leads (drop at card)) (next_of r) → Ahead card at (x ∷ ls) → ⊥
-  is_missing {x} {ls} e f a = gone f (ap next_of e) (leads a)
+  pub is_missing : {x : Line} {ls : List Line} → Finds (Leads (drop at card)) None → Ahead card at (x ∷ ls) → ⊥
+  is_missing {x} {ls} f a = gone f refl (leads a)
 
-  pub is_found : {x l : Line} {ls : List Line} {n : ℕ} → r ≡ Next.Good l n → Finds (Leads (drop at card)) (next_of r) → Ahead card at (x ∷ ls)
+  pub is_found : {x l : Line} {ls : List Line} {n : ℕ} → Finds (Leads (drop at card)) (Some (l, n)) → Ahead card at (x ∷ ls)
       → (l ≡ x) × Ahead card (at + n) ls
-  is_found {x} {l} {ls} {n} e f a =
-      let q : ◌≡◌ {A = Line × ℕ} (l, n) (x, length (written x) + 1) = same f (ap next_of e) (leads a) in
+  is_found {x} {l} {ls} {n} f a =
+      let q : ◌≡◌ {A = Line × ℕ} (l, n) (x, length (written x) + 1) = same f refl (leads a) in
       let size : n ≡ length (written x) + 1 = ap (λ (b : Line × ℕ). b.1) q in
       let long : length (written x ++ (10 ∷ [])) ≡ n = length-append (written x) (10 ∷ []) ∙ sym size in (
         ap (λ (b : Line × ℕ). b.0) q,
         record {
-          inside = (within e f a.inside).1;
+          inside = (within f a.inside).1;
           bytes = sym (drop-drop n at card) ∙ ap (drop n) (a.bytes ∙ sym (append_assoc (written x) (10 ∷ []) (text ls)))
               ∙ drop_at (written x ++ (10 ∷ [])) (text ls) n long;
           range = a.range.1;

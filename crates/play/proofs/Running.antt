@@ -1,4 +1,5 @@
 -- The run of a card goes on by a line: an event's, or the next operation's. Assumes nothing.
+use Rattle.std.specs.Prelude.{Option, None, Some}
 use mathlib.Core.Path.{◌≡◌, refl, sym, ap, subst, ◌∙◌}
 use mathlib.Core.List.{List, [], ◌∷◌, ◌++◌, map, append_assoc, append-nil}
 use Prim.Native.Nat.{ℕ, zero, suc, ◌+◌, ◌-◌, ◌*◌, ◌<◌}
@@ -10,9 +11,8 @@ use Rattle.layout.specs.Bytes.{Bytes}
 use Rattle.text.specs.declared.line.Op.{Op}
 use Rattle.text.specs.declared.line.Line.{Line}
 use Rattle.text.specs.declared.line.Line.TheVariants.{Do}
-use Rattle.text.specs.declared.line.Next.{Next}
 use Rattle.text.specs.Finds.{Finds}
-use Rattle.text.specs.Lines.{Leads, next_of}
+use Rattle.text.specs.Lines.{Leads}
 use Rattle.print.specs.declared.Report.{Report}
 use Rattle.print.specs.Printed.{op_line}
 use Rattle.card.specs.Running.{Ran}
@@ -64,23 +64,31 @@ module _ {card : List ℕ} {text : List ℕ} {p : Progress} {s t : List ℕ} (f 
           ∙ sym (append_assoc text (event_text (part t (event_size * p.told) event_size)) (events_text t (p.told + 1) (p.left - 1)))
 
   -- the line at the place is the next operation's
-  module _ {next : Next} (some_left : p.at < length card) where
-    pub never_missing : next ≡ Next.Bad → Finds (Leads (drop p.at card)) (next_of next) → ⊥
-    never_missing e found = go f.rest f.ahead
+  module _ (some_left : p.at < length card) where
+    never_missing : Finds (Leads (drop p.at card)) None → ⊥
+    never_missing found = go f.rest f.ahead
       where
         go : (os : List Op) → Ahead card p.at (map Do os) → ⊥
         go [] a = at_end a some_left
-        go (o ∷ os) a = is_missing card p.at e found a
+        go (o ∷ os) a = is_missing card p.at found a
 
-    pub is_op : {l : Line} {n : ℕ} → next ≡ Next.Good l n → Finds (Leads (drop p.at card)) (next_of next) → (o : Op) × (l ≡ Do o)
-    is_op {l} {n} e found = go f.rest f.ahead
+    is_op : {l : Line} {n : ℕ} → Finds (Leads (drop p.at card)) (Some (l, n)) → (o : Op) × (l ≡ Do o)
+    is_op {l} {n} found = go f.rest f.ahead
       where
         go : (os : List Op) → Ahead card p.at (map Do os) → (o : Op) × (l ≡ Do o)
         go [] a = absurd (at_end a some_left)
-        go (o ∷ os) a = (o, (is_found card p.at e found a).0)
+        go (o ∷ os) a = (o, (is_found card p.at found a).0)
 
-    module _ {l : Line} {n : ℕ} {o : Op} {s' t' : List ℕ} {r : Report} (good : next ≡ Next.Good l n)
-        (found : Finds (Leads (drop p.at card)) (next_of next)) (is : l ≡ Do o) (none_left : p.left ≡ 0)
+    -- so no other answer comes
+    pub no_other : {r : Option (Line × ℕ)} → Finds (Leads (drop p.at card)) r → ((o : Op) (n : ℕ) → r ≡ Some (Do o, n) → ⊥) → ⊥
+    no_other {r} found h = go r found h
+      where
+        go : (r : Option (Line × ℕ)) → Finds (Leads (drop p.at card)) r → ((o : Op) (n : ℕ) → r ≡ Some (Do o, n) → ⊥) → ⊥
+        go None found h = never_missing found
+        go (Some a) found h = let (o, e) = is_op found in h o a.1 (ap (λ (l : Line). Some (l, a.1)) e)
+
+    module _ {l : Line} {n : ℕ} {o : Op} {s' t' : List ℕ} {r : Report}
+        (found : Finds (Leads (drop p.at card)) (Some (l, n))) (is : l ≡ Do o) (none_left : p.left ≡ 0)
         (ran : Ran (p.number + 1) o s t s' t' r) (memory : Bytes s') where
       pub run_next : (u : ℕ) → SoFar card (text ++ op_line r) (record { at = p.at + n; number = p.number + 1; told = 0; left = r.events; used = u }) s' t'
       run_next u = go f.rest f.ahead f.runs
@@ -93,14 +101,14 @@ module _ {card : List ℕ} {text : List ℕ} {p : Progress} {s t : List ℕ} (f 
               → SoFar card (text ++ op_line r) (record { at = p.at + n; number = p.number + 1; told = 0; left = r.events; used = u }) s' t'
           go [] a g = absurd (at_end a some_left)
           go (x ∷ os) a g =
-              let same : o ≡ x = do_inj (sym is ∙ (is_found card p.at good found a).0) in
+              let same : o ≡ x = do_inj (sym is ∙ (is_found card p.at found a).0) in
               record {
                 ops = f.ops;
                 store = f.store;
                 trace = f.trace;
                 begins = f.begins;
                 rest = os;
-                ahead = (is_found card p.at good found a).1;
+                ahead = (is_found card p.at found a).1;
                 runs = subst (λ (x : List ℕ). Runs 0 f.ops f.store f.trace x (p.number + 1) os s' t') (op_line_lem text r t')
                     (runs_more (subst (λ (y : List ℕ). Runs 0 f.ops f.store f.trace y p.number (x ∷ os) s t) line g)
                     (subst (λ (y : Op). Ran (p.number + 1) y s t s' t' r) same ran) memory);

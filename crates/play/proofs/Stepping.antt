@@ -1,4 +1,5 @@
 -- A line put on the page, a page filled, the pages handed on: each is the next part of the card's output. Assumes nothing.
+use Rattle.std.specs.Prelude.{Some}
 use mathlib.Core.Path.{◌≡◌, refl, sym, ap, subst, ◌∙◌}
 use mathlib.Core.Logic.{◌⊎◌, inl, inr, ⊎_elim}
 use mathlib.Core.Bool.{Bool, false}
@@ -8,21 +9,20 @@ use native.Mathlib.Omega.{arith}
 use native.Mathlib.Decide.{dec_le}
 use lib.ListN.{length, take, drop, length-append, length-drop}
 use lib.Seq.{length-take-le}
+use Rattle.std.specs.Prelude.{Result, Ok, Err}
 use Rattle.layout.specs.Limits.{event_size}
 use Rattle.layout.specs.Bytes.{part}
 use Rattle.layout.specs.Bytes.{Bytes}
 use Rattle.text.specs.declared.line.Op.{Op}
 use Rattle.text.specs.declared.line.Line.{Line}
 use Rattle.text.specs.declared.line.Line.TheVariants.{Do}
-use Rattle.text.specs.declared.line.Next.{Next}
 use Rattle.text.specs.Finds.{Finds, Tells}
-use Rattle.text.specs.Lines.{written, Leads, next_of}
+use Rattle.text.specs.Lines.{written, Leads}
 use Rattle.print.specs.declared.Report.{Report}
 use Rattle.print.specs.Printed.{op_line, bad_line, longest}
 use Rattle.print.specs.Writing.{Wrote}
 use Rattle.card.specs.Cards.{StopsAt, text}
 use Rattle.card.specs.Running.{Ran}
-use Rattle.play.specs.declared.Handed.{Handed}
 use Rattle.play.specs.declared.progress.Progress.{Progress}
 use Rattle.play.specs.Output.{event_text, events_text, Runs, Prints, bad, good, Leaves, finished, leaves_prints, Stands}
 use Rattle.play.specs.Steps.{page_bytes, Ahead, SoFar, Ended, Ready, to_go, Told, Puts, Fills, HandedOn, AllOf, most_bytes, AllLeft}
@@ -59,12 +59,12 @@ module _ {card : List ℕ} {p : Progress} {t page : List ℕ} (ready : Ready car
       }
 
   -- an operation's
-  pub op_puts : {next : Next} {l : Line} {n : ℕ} {o : Op} {s s' t' page' : List ℕ} {r : Report} {u : ℕ} → next ≡ Next.Good l n
-      → Finds (Leads (drop p.at card)) (next_of next) → l ≡ Do o → p.at < length card → p.left ≡ 0 → Ran (p.number + 1) o s t s' t' r
+  pub op_puts : {l : Line} {n : ℕ} {o : Op} {s s' t' page' : List ℕ} {r : Report} {u : ℕ}
+      → Finds (Leads (drop p.at card)) (Some (l, n)) → l ≡ Do o → p.at < length card → p.left ≡ 0 → Ran (p.number + 1) o s t s' t' r
       → Bytes s' → r.events * event_size ≤ length t → length t' ≡ length t → Wrote page p.used (op_line r) page' u → length page' ≡ length page
       → Puts card p s t page (record { at = p.at + n; number = p.number + 1; told = 0; left = r.events; used = u }) s' t' page'
-  op_puts {next} {l} {n} {o} {s} {s'} {t'} {page'} {r} {u} e f is h none ran memory room same w long =
-      let m : (0 < n) × (p.at + n ≤ length card) = lines.within card p.at e f ready.inside in
+  op_puts {l} {n} {o} {s} {s'} {t'} {page'} {r} {u} f is h none ran memory room same w long =
+      let m : (0 < n) × (p.at + n ≤ length card) = lines.within card p.at f ready.inside in
       record {
         ready = record {
           short = ready.short;
@@ -77,7 +77,7 @@ module _ {card : List ℕ} {p : Progress} {t page : List ℕ} (ready : Ready car
         within = within (omega arith) w long;
         line = op_line r;
         wrote = w;
-        next = λ x g. run_next g h e f is none ran memory u;
+        next = λ x g. run_next g h f is none ran memory u;
       }
 
 -- ---- a page
@@ -213,13 +213,10 @@ bad_stands {card} {x} n h e =
     record { before = []; behind = []; rest = []; place = refl; prints = subst (λ (y : List ℕ). Prints card [] y) (sym (append-nil x ∙ e)) (bad n h) }
 
 -- ---- what was handed on
-pub handed_to_lem : {n m : ℕ} {r : Handed} → r ≡ Handed.To m → HandedOn n r → m ≡ n
-handed_to_lem {n} {m} {r} e h = rw e at h
+pub handed_all : {E : Type 0} {card x s : List ℕ} {n : ℕ} (r : Result ℕ E) → HandedOn n r → n ≡ length x → n ≤ longest → Leaves card x s → AllLeft card s r
+handed_all {E} {card} {x} {s} {n} (Ok m) h e f p = (x, p, h ∙ e, omega (arith, h, f))
+handed_all {E} {card} {x} {s} {n} (Err error) h e f p = tt
 
-pub handed_all : {card x s : List ℕ} {n : ℕ} (r : Handed) → HandedOn n r → n ≡ length x → n ≤ longest → Leaves card x s → AllLeft card s r
-handed_all {card} {x} {s} {n} (Handed.To m) h e f p = (x, p, h ∙ e, omega (arith, h, f))
-handed_all {card} {x} {s} {n} (Handed.Lost error) h e f p = tt
-
-pub left_all : (card s : List ℕ) (r : Handed) → AllLeft card s r → AllOf card r
-left_all card s (Handed.To m) h = (h.0, leaves_prints h.1, h.2)
-left_all card s (Handed.Lost error) h = tt
+pub left_all : {E : Type 0} (card s : List ℕ) (r : Result ℕ E) → AllLeft card s r → AllOf card r
+left_all card s (Ok m) h = (h.0, leaves_prints h.1, h.2)
+left_all card s (Err error) h = tt

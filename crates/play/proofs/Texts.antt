@@ -1,9 +1,9 @@
 -- A text put behind what a page holds, and a line taken from the front of its buffer. Assumes nothing.
 use mathlib.Core.Path.{◌≡◌, sym, ap, ◌∙◌}
-use mathlib.Core.List.{List, [], ◌++◌, append_assoc, append-nil}
+use mathlib.Core.List.{List, [], ◌++◌, append_assoc}
 use Prim.Native.Nat.{ℕ, ◌≤◌}
 use native.Mathlib.Omega.{arith}
-use lib.ListN.{length, take, drop, length-append, take-append-drop, drop_of_length-le}
+use lib.ListN.{length, take, drop, length-append, take-append-drop}
 use lib.Seq.{take_at, length-take-le}
 use Rattle.print.specs.Writing.{Wrote}
 
@@ -31,11 +31,6 @@ module _ {before line after : List ℕ} {next : ℕ} (w : Wrote before 0 line af
 
   pub front : take next after ≡ line
   front = ap (take next) w.bytes ∙ take_at line (drop next before) next (omega (arith, w.place))
-
-  -- the text fills the buffer
-  pub filled : length before ≡ length line → after ≡ line
-  filled e =
-      w.bytes ∙ ap (λ (t : List ℕ). line ++ t) (drop_of_length-le before {i = next} (omega (arith, w.place))) ∙ append-nil line
 
 -- nothing was written
 pub kept : (page : List ℕ) (at : ℕ) → Wrote page at [] page at

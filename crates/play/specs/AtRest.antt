@@ -1,6 +1,6 @@
 -- A good card's operations run on a sound store with no walk under way: open is handed what it asks for, and no operation begins a
 -- walk (document 02, W5). So document 01's "the lowest number that applies" is said of every line (`ran_lowest`). Assumes nothing.
-use Rattle.std.specs.Prelude.{◌≡◌, refl, List, [], ◌∷◌, ◌++◌, map, ℕ, zero, suc, ◌+◌, ◌*◌, ◌<◌, length}
+use Rattle.std.specs.Prelude.{◌≡◌, refl, List, [], ◌∷◌, ◌++◌, map, ℕ, zero, suc, ◌+◌, ◌*◌, ◌<◌, length, ℤ, Option, None, Some}
 use Rattle.std.proofs.Common.{sym, ap, subst, ◌∙◌, inl, inr, arith, length-append}
 use Rattle.std.proofs.Math.Option.{none}
 use Rattle.std.proofs.Math.Decide.{ℕ_discrete}
@@ -15,8 +15,6 @@ use Rattle.promises.specs.Tables.{Lowest}
 use Rattle.promises.specs.Promises.{damaged_row, Openable, Opened}
 use Rattle.promises.specs.Calls.{table}
 use Rattle.promises.proofs.Calls.{opens}
-use Rattle.text.specs.declared.line.Cell.{Cell}
-use Rattle.text.specs.declared.line.Cell.TheVariants.{Value, Unbound}
 use Rattle.text.specs.declared.line.Op.{Op}
 use Rattle.text.specs.declared.line.Line.TheVariants.{Vars, Nodes, Room, Top, Do}
 use Rattle.text.specs.Every.{All}
@@ -29,23 +27,23 @@ use Rattle.card.specs.AtRest.{AtRest, ran_rest, ran_lowest}
 use Rattle.play.specs.Output.{tops_b, Runs, stay, step, Begins}
 
 -- ---- the top cells of a card are good
-tops_long : (cs : List Cell) → length (tops_b cs) ≡ bare_size * length cs
+tops_long : (cs : List (Option ℤ)) → length (tops_b cs) ≡ bare_size * length cs
 unfolding tops_b
 tops_long [] = refl
 tops_long (c ∷ cs) = length-append (cell_b c) (tops_b cs) ∙ omega (arith, cell_long c, tops_long cs)
 
 -- behind one cell the others stand as they stood
-tops_behind : (c : Cell) (cs : List Cell) (x : ℕ) → top_c (tops_b (c ∷ cs)) (suc x) ≡ top_c (tops_b cs) x
+tops_behind : (c : Option ℤ) (cs : List (Option ℤ)) (x : ℕ) → top_c (tops_b (c ∷ cs)) (suc x) ≡ top_c (tops_b cs) x
 unfolding tops_b top_c
 tops_behind c cs x =
     let at : bare_size * suc x ≡ length (cell_b c) + bare_size * x = omega (arith, cell_long c) in
     ap bare_c (ap (λ (k : ℕ). part (cell_b c ++ tops_b cs) k bare_size) at ∙ part_right (cell_b c) (tops_b cs) (bare_size * x) bare_size)
 
-tops_proper : (cs : List Cell) (x : ℕ) → x < length cs → ProperCell (top_c (tops_b cs) x)
+tops_proper : (cs : List (Option ℤ)) (x : ℕ) → x < length cs → ProperCell (top_c (tops_b cs) x)
 unfolding tops_b cell_b value_c top_c bare_c part
 tops_proper [] x h = absurd (omega arith)
-tops_proper (Value v ∷ cs) zero h = inr refl
-tops_proper (Unbound ∷ cs) zero h = inl refl
+tops_proper (Some v ∷ cs) zero h = inr refl
+tops_proper (None ∷ cs) zero h = inl refl
 tops_proper (c ∷ cs) (suc x) h = subst ProperCell (sym (tops_behind c cs x)) (tops_proper cs x (omega arith))
 
 -- ---- so open is done, with no walk under way

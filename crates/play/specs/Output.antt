@@ -1,13 +1,12 @@
 -- What a card prints, the whole of it (document 01, "The card"): for each operation its line, then a line an event; of a card that is no
 -- good its one line. Assumes nothing: these are definitions, and that what leaves a store is printed.
-use Rattle.std.specs.Prelude.{◌≡◌, List, [], ◌∷◌, ◌++◌, ℕ, zero, suc, ◌+◌, ◌*◌, ◌≤◌, length}
+use Rattle.std.specs.Prelude.{◌≡◌, List, [], ◌∷◌, ◌++◌, ℕ, zero, suc, ◌+◌, ◌*◌, ◌≤◌, length, ℤ, Option}
 use Rattle.layout.specs.Limits.{event_size, size_of}
 use Rattle.layout.specs.Bytes.{part}
 use Rattle.layout.specs.Events.{event_in}
 use Rattle.layout.specs.Bytes.{Bytes}
 use Rattle.promises.specs.Answers.{Numbers}
 use Rattle.promises.specs.Promises.{OpenPromise}
-use Rattle.text.specs.declared.line.Cell.{Cell}
 use Rattle.text.specs.declared.line.Op.{Op}
 use Rattle.print.specs.declared.Report.{Report}
 use Rattle.print.specs.Printed.{op_line, event_line, bad_line}
@@ -38,7 +37,7 @@ pub data Runs : ℕ → List Op → List ℕ → List ℕ → List ℕ → ℕ �
 
 -- ---- a whole card
 -- its top values as top cells, one behind the other
-unfoldable pub tops_b : List Cell → List ℕ
+unfoldable pub tops_b : List (Option ℤ) → List ℕ
 tops_b [] = []
 tops_b (c ∷ cs) = cell_b c ++ tops_b cs
 

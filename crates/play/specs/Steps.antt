@@ -1,5 +1,5 @@
 -- How far the run of a card has come, and what the functions that fill a page say of it. Assumes nothing: these are definitions.
-use Rattle.std.specs.Prelude.{◌≡◌, ◌⊎◌, List, [], ◌++◌, map, ℕ, ◌+◌, ◌-◌, ◌*◌, ◌≤◌, ◌<◌, length, take, drop}
+use Rattle.std.specs.Prelude.{◌≡◌, ◌⊎◌, List, [], ◌++◌, map, ℕ, ◌+◌, ◌-◌, ◌*◌, ◌≤◌, ◌<◌, length, take, drop, Option, None, Some, Result, Ok, Err}
 use Rattle.layout.specs.Limits.{max_vars, max_nodes, bare_size, event_size, size_of}
 use Rattle.layout.specs.Bytes.{part}
 use Rattle.text.specs.declared.line.Op.{Op}
@@ -10,9 +10,7 @@ use Rattle.text.specs.Limits.{max_bytes}
 use Rattle.text.specs.Lines.{InRange}
 use Rattle.card.specs.Cards.{Passes, text}
 use Rattle.print.specs.Writing.{Wrote}
-use Rattle.play.specs.declared.Handed.{Handed}
 use Rattle.play.specs.declared.reading.Heads.{Heads}
-use Rattle.play.specs.declared.reading.Headed.{Headed}
 use Rattle.play.specs.declared.progress.Progress.{Progress}
 use Rattle.play.specs.Output.{event_text, events_text, Runs, Begins, Prints, Leaves}
 
@@ -27,9 +25,9 @@ pub record Ahead (card : List ℕ) (at : ℕ) (ls : List Line) : Type 0 where
   pub range : All InRange ls
 
 -- the headings were read, and the lines ls stand behind them
-abbrev pub Reads : List ℕ → ℕ → ℕ → ℕ → List Line → Headed → Type 0
-Reads card v n m ls (Headed.Good h) = (h.vars ≡ v) × (h.nodes ≡ n) × (h.room ≡ m) × Ahead card h.at ls
-Reads card v n m ls Headed.Bad = ⊥
+abbrev pub Reads : List ℕ → ℕ → ℕ → ℕ → List Line → Option Heads → Type 0
+Reads card v n m ls (Some h) = (h.vars ≡ v) × (h.nodes ≡ n) × (h.room ≡ m) × Ahead card h.at ls
+Reads card v n m ls None = ⊥
 
 -- ---- running: the operations so far print the text, and then the lines of the events that are not yet told
 pub record SoFar (card text : List ℕ) (p : Progress) (s t : List ℕ) : Type 0 where
@@ -91,20 +89,20 @@ pub record Begun (card : List ℕ) (h : Heads) (tops store trace : ℕ) : Type 0
   pub trace_long : event_size * max_nodes ≤ trace + event_size
 
 -- handed on up to the place n, or lost
-abbrev pub HandedOn : ℕ → Handed → Type 0
-HandedOn n (Handed.To m) = m ≡ n
-HandedOn n (Handed.Lost error) = Unit {0}
+abbrev pub HandedOn : {E : Type 0} → ℕ → Result ℕ E → Type 0
+HandedOn n (Ok m) = m ≡ n
+HandedOn n (Err error) = Unit {0}
 
 -- all was handed on, and it is the card's whole output; or a write failed
-abbrev pub AllOf : List ℕ → Handed → Type 0
-AllOf card (Handed.To n) = (text : List ℕ) × Prints card [] text × (n ≡ length text)
-AllOf card (Handed.Lost error) = Unit {0}
+abbrev pub AllOf : {E : Type 0} → List ℕ → Result ℕ E → Type 0
+AllOf card (Ok n) = (text : List ℕ) × Prints card [] text × (n ≡ length text)
+AllOf card (Err error) = Unit {0}
 
 -- no card prints more bytes: a page for each operation and each event that the longest card can have
 abbrev pub most_bytes : ℕ
 most_bytes = 137447337984
 
 -- .. and it leaves the store s
-abbrev pub AllLeft : List ℕ → List ℕ → Handed → Type 0
-AllLeft card s (Handed.To n) = (text : List ℕ) × Leaves card text s × (n ≡ length text) × (n ≤ most_bytes)
-AllLeft card s (Handed.Lost error) = Unit {0}
+abbrev pub AllLeft : {E : Type 0} → List ℕ → List ℕ → Result ℕ E → Type 0
+AllLeft card s (Ok n) = (text : List ℕ) × Leaves card text s × (n ≡ length text) × (n ≤ most_bytes)
+AllLeft card s (Err error) = Unit {0}

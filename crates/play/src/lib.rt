@@ -12,9 +12,9 @@ ghost use Rattle.play.specs.Output.{Stands};
 ghost use Rattle.play.specs.Steps.{Ready, SoFar, Begun, HandedOn, AllOf, AllLeft};
 
 use crate::page::Page;
-use crate::progress::{Progress, fill, is_ended};
-use crate::reading::{Headed, Heads, read_heads, read_tops};
-use card::check::{Verdict, check};
+use crate::progress::Progress;
+use crate::reading::{Heads, read_heads, read_tops};
+use card::check::{BadLine, check};
 use layout::Store;
 use print::{Print, put_bad};
 use std::io;
@@ -32,22 +32,14 @@ impl Sizes {
     pub const TRACE: usize = Store::EVENT * (Store::NODES - 1);
 }
 
-// The output was handed on up to a place, or a write failed and the error says why.
-#[derive(Clone, Copy)]
-pub enum Handed {
-    To(usize),
-    Lost(io::Error),
-}
-
-// The only function that writes: the text, which stands in the card's output at the place from (for which the card is handed in).
-fn hand<W: Write>(card: &[u8], from: usize, text: &[u8], out: &mut W) -> Handed
+// The only function that writes: the text, which stands in the card's output at the place from (for which the card is handed in). The
+// answer is the place behind it.
+fn hand<W: Write>(card: &[u8], from: usize, text: &[u8], out: &mut W) -> io::Result<usize>
     requires { Stands card.now from text.now × (from + length text.now < 2 ^ 64) }
     ensures { HandedOn (from + length text.now) result }
 {
-    if let Err(error) = out.write_all(text) {
-        return Handed::Lost(error);
-    }
-    Handed::To(from + text.len())
+    out.write_all(text)?;
+    Ok(from + text.len())
 }
 
 // What is printed from a beginning to the end, page by page.
@@ -57,23 +49,19 @@ fn write_pages<W: Write>(
     store: &mut [u8],
     trace: &mut [u8],
     out: &mut W,
-) -> Handed
+) -> io::Result<usize>
     requires { Ready card.now trace.old start × SoFar card.now [] start store.old trace.old }
     ensures { AllLeft card.now store.new result }
 {
     let mut page = [0u8; Page::BYTES];
-    let mut p = start;
+    let mut progress = start;
     let mut done: usize = 0;
-    while !is_ended(p, card) {
-        p = fill(p, card, store, trace, &mut page);
-        let used = p.used;
-        let next = match hand(card, done, &page[..used], out) {
-            Handed::To(next) => next,
-            Handed::Lost(error) => return Handed::Lost(error),
-        };
-        done = next;
+    // how many pages there are is not known before
+    while !progress.is_ended(card) {
+        progress.fill(card, store, trace, &mut page);
+        done = hand(card, done, &page[..progress.used], out)?;
     }
-    Handed::To(done)
+    Ok(done)
 }
 
 // The lines behind the headings, on lent buffers: the top values, the store as it is opened, the operations.
@@ -84,14 +72,14 @@ fn run_in<W: Write>(
     store: &mut [u8],
     trace: &mut [u8],
     out: &mut W,
-) -> Handed
+) -> io::Result<usize>
     requires { Begun card.now heads (length tops.old) (length store.old) (length trace.old) }
     ensures { AllLeft card.now store.new result }
 {
     let cells = Store::BARE * heads.vars as usize;
     let room = Store::EVENT * heads.room as usize;
     let at = read_tops(card, heads.at, &mut tops[..cells]);
-    store::open(heads.vars, heads.nodes, &tops[..cells], store);
+    let _ = store::open(heads.vars, heads.nodes, &tops[..cells], store);
     let start = Progress {
         at,
         number: 0,
@@ -103,13 +91,13 @@ fn run_in<W: Write>(
 }
 
 // A good card, run on buffers that are large enough for any.
-fn run_card<W: Write>(card: &[u8], store: &mut [u8; Sizes::STORE], out: &mut W) -> Handed
+fn run_card<W: Write>(card: &[u8], store: &mut [u8; Sizes::STORE], out: &mut W) -> io::Result<usize>
     requires { Passes card.now }
     ensures { AllLeft card.now store.new result }
 {
-    let Headed::Good(heads) = read_heads(card) else {
+    let Some(heads) = read_heads(card) else {
         // a card that passes does not come here
-        return Handed::Lost(io::Error::from(io::ErrorKind::InvalidData));
+        return Err(io::Error::from(io::ErrorKind::InvalidData));
     };
     let mut tops = [0u8; Sizes::TOPS];
     let mut trace = [0u8; Sizes::TRACE];
@@ -117,7 +105,7 @@ fn run_card<W: Write>(card: &[u8], store: &mut [u8; Sizes::STORE], out: &mut W) 
 }
 
 // The one line of a card that is no good.
-fn refuse<W: Write>(card: &[u8], line: u32, out: &mut W) -> Handed
+fn refuse<W: Write>(card: &[u8], line: u32, out: &mut W) -> io::Result<usize>
     requires { StopsAt card.now line }
     ensures { (s : List ℕ) → AllLeft card.now s result }
 {
@@ -127,17 +115,21 @@ fn refuse<W: Write>(card: &[u8], line: u32, out: &mut W) -> Handed
 }
 
 // The card is checked as a whole before anything is run, and run on the lent store. Nothing more is written behind a write that failed.
-pub fn play_in<W: Write>(card: &[u8], store: &mut [u8; Sizes::STORE], out: &mut W) -> Handed
+pub fn play_in<W: Write>(
+    card: &[u8],
+    store: &mut [u8; Sizes::STORE],
+    out: &mut W,
+) -> io::Result<usize>
     ensures { AllLeft card.now store.new result }
 {
     match check(card) {
-        Verdict::Good => run_card(card, store, out),
-        Verdict::Bad(line) => refuse(card, line, out),
+        Ok(()) => run_card(card, store, out),
+        Err(BadLine(line)) => refuse(card, line, out),
     }
 }
 
 // The same on a store of its own.
-pub fn play<W: Write>(card: &[u8], out: &mut W) -> Handed
+pub fn play<W: Write>(card: &[u8], out: &mut W) -> io::Result<usize>
     ensures { AllOf card.now result }
 {
     let mut store = [0u8; Sizes::STORE];

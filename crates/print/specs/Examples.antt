@@ -1,16 +1,16 @@
 -- Lines of document 01's example, computed from the definitions. Assumes nothing.
-use Rattle.std.specs.Prelude.{◌≡◌, refl, true, false, pos, negsuc}
+use Rattle.std.specs.Prelude.{◌≡◌, refl, true, false, pos, negsuc, Some, None}
 use Rattle.text.specs.Words.{bytes}
 use Rattle.text.specs.Decimal.{tens, decimal, whole}
-use Rattle.print.specs.declared.Out.TheVariants.{None, Number, Value}
+use Rattle.print.specs.declared.Out.TheVariants.{Number, Value}
 use Rattle.print.specs.Printed.{op_line, event_line, bad_line}
 use Rattle.print.specs.Explaining.{bind_line, wind_line, shadowed_line, top_value_line}
 
-pub op_4 : op_line (record { op = 4; code = 0; out = Number (pos 0); moves = 3; events = 1 }) ≡ bytes "op=4 code=0 out=0 moves=3 events=1 by=none\n"
+pub op_4 : op_line (record { op = 4; code = 0; out = Some (Number (pos 0)); moves = 3; events = 1 }) ≡ bytes "op=4 code=0 out=0 moves=3 events=1 by=none\n"
 unfolding op_line decimal whole tens
 op_4 = refl
 
-pub op_7 : op_line (record { op = 7; code = 0; out = Value (negsuc 0) 1; moves = 0; events = 0 }) ≡ bytes "op=7 code=0 out=-1 moves=0 events=0 by=1\n"
+pub op_7 : op_line (record { op = 7; code = 0; out = Some (Value (negsuc 0) 1); moves = 0; events = 0 }) ≡ bytes "op=7 code=0 out=-1 moves=0 events=0 by=1\n"
 unfolding op_line decimal whole tens
 op_7 = refl
 
@@ -31,7 +31,7 @@ unfolding bad_line decimal tens
 too_long = refl
 
 -- the lines of an explanation (document 02, W7)
-pub bound : bind_line 3 0 (Number (negsuc 0)) ≡ bytes "env=3 bind=0,-1\n"
+pub bound : bind_line 3 0 (Some (negsuc 0)) ≡ bytes "env=3 bind=0,-1\n"
 unfolding bind_line decimal whole tens
 bound = refl
 
@@ -43,6 +43,6 @@ pub behind : shadowed_line 1 None ≡ bytes "shadowed=1 value=none\n"
 unfolding shadowed_line decimal tens
 behind = refl
 
-pub top_value : top_value_line (Number (pos 1)) ≡ bytes "top=1\n"
+pub top_value : top_value_line (Some (pos 1)) ≡ bytes "top=1\n"
 unfolding top_value_line decimal whole tens
 top_value = refl

@@ -1,33 +1,38 @@
 -- The text that a run prints (document 01, "The card"): the line of an operation, of an event, and of a card that is no good.
 -- Assumes nothing: these are definitions.
-use Rattle.std.specs.Prelude.{Bool, true, false, List, ◌++◌, ℕ}
-use Rattle.std.proofs.Math.Option.{Option, none, some}
+use Rattle.std.specs.Prelude.{Bool, true, false, List, ◌++◌, ℕ, ℤ, Option, Some, None}
+use Rattle.std.proofs.Math.Option as maybe
 use Rattle.rules.specs.Refusals.{no_line}
 use Rattle.text.specs.Words.{bytes}
 use Rattle.text.specs.Decimal.{decimal, whole}
 use Rattle.print.specs.declared.Out.{Out}
-use Rattle.print.specs.declared.Out.TheVariants.{None, Number, Value}
+use Rattle.print.specs.declared.Out.TheVariants.{Number, Value}
 use Rattle.print.specs.declared.Report.{Report}
 
+-- a value, and none where there is none
+abbrev pub value_text : Option ℤ → List ℕ
+value_text None = bytes "none"
+value_text (Some v) = whole v
+
 -- the answer, and none on a refusal
-abbrev pub out_text : Out → List ℕ
+abbrev pub out_text : Option Out → List ℕ
 out_text None = bytes "none"
-out_text (Number v) = whole v
-out_text (Value v by) = whole v
+out_text (Some (Number v)) = whole v
+out_text (Some (Value v by)) = whole v
 
 -- a word and a number behind it
 abbrev pub field : List ℕ → ℕ → List ℕ
 field w n = w ++ decimal n
 
 -- the last field (document 02, W2): the decider of a value, and none where the answer is no value
-abbrev pub by_of : Out → Option ℕ
-by_of None = none
-by_of (Number n) = none
-by_of (Value v by) = some by
+abbrev pub by_of : Option Out → maybe.Option ℕ
+by_of None = maybe.none
+by_of (Some (Number n)) = maybe.none
+by_of (Some (Value v by)) = maybe.some by
 
-abbrev pub by_text : Option ℕ → List ℕ
-by_text none = bytes " by=none\n"
-by_text (some n) = field (bytes " by=") n ++ bytes "\n"
+abbrev pub by_text : maybe.Option ℕ → List ℕ
+by_text maybe.none = bytes " by=none\n"
+by_text (maybe.some n) = field (bytes " by=") n ++ bytes "\n"
 
 -- the line of an operation
 unfoldable pub op_line : Report → List ℕ

@@ -1,15 +1,15 @@
-// The lines that a run prints, each written from the front of a lent line buffer; the answer is its length.
+// The lines that a run prints, each written from the front of a lent line buffer; the answer is its length. Numbers are written by decimals of
+// this crate's own, digit by digit by division by ten, as document 02 (W6) demands, so `impl Display`, which would use the library's, serves no line.
 #![tactic(auto)]
 
 mod writing;
 
-ghost use Rattle.std.specs.Prelude.{◌+◌, ◌≤◌, ◌++◌, length};
-ghost use Rattle.text.specs.Decimal.{decimal};
-ghost use Rattle.print.specs.Printed.{field, out_text, by_of, by_text, kind_text, op_line, event_line, bad_line, longest};
+ghost use Rattle.std.specs.Prelude.{◌+◌, ◌≤◌, ◌≡◌, length};
+ghost use Rattle.print.specs.Printed.{value_text, out_text, by_of, by_text, kind_text, op_line, event_line, bad_line, longest};
 ghost use Rattle.print.specs.Explaining.{bind_line, wind_line, top_line, shadowed_line, top_value_line, unbound_line, Puts};
-ghost use Rattle.print.specs.Writing.{Wrote};
+ghost use Rattle.print.specs.Writing.{Wrote, Adds};
 
-use crate::writing::{put_natural, put_text, put_whole};
+use crate::writing::Pen;
 
 // The longest line.
 #[derive(Drop)]
@@ -19,72 +19,64 @@ impl Print {
     pub const LINE: usize = 96;
 }
 
-// What a call answers: nothing on a refusal, else a number, or a value and the number of its decider. Of what a binding holds: nothing
-// where it is unbound, else a number.
+// Each function below that puts a line promises that it is no longer than the longest, since its callers put it where so much is free.
+
+// What a call that is not refused answers: a number, or a value and the number of its decider.
 #[derive(Clone, Copy)]
 pub enum Out {
-    None,
     Number(i32),
-    Value(i32, u32),
+    Value { value: i32, by: u32 },
 }
 
-// What is printed of one operation: its number, the answer number, the answer with its decider, moves and events.
+// What is printed of one operation: its number, the answer number, the answer with its decider (none on a refusal), moves and events. The
+// number stands beside the answer, since the line has both (`op_line`), and `Plain` says when there is one.
 #[derive(Clone, Copy)]
 pub struct Report {
     pub op: u32,
     pub code: u32,
-    pub out: Out,
+    pub out: Option<Out>,
     pub moves: u32,
     pub events: u32,
 }
 
-// A word and a number behind it.
-fn put_field(word: &[u8], n: u32, out: &mut [u8], at: usize) -> usize
-    requires { at + length word.now + 10 ≤ length out.old }
-    ensures wrote { Wrote out.old at (word.now ++ decimal n) out.new result }
-    ensures upper_bound { result ≤ at + length word.now + 10 }
-{
-    let next = put_text(word, out, at);
-    put_natural(n, out, next)
-}
-
-// A thunk that is entered or left.
-fn put_kind(entering: bool, thunk: u32, out: &mut [u8]) -> usize
-    requires { 16 ≤ length out.old }
-    ensures wrote { Wrote out.old 0 (field (kind_text entering) thunk) out.new result }
-    ensures upper_bound { result ≤ 16 }
-{
-    if entering {
-        return put_field(b"enter=", thunk, out, 0);
+impl Pen<'_> {
+    // A value, or none.
+    fn value(&mut self, v: Option<i32>)
+        requires { self.old.at + 11 ≤ longest }
+        ensures adds { Adds self.old (value_text v) self.new }
+        ensures upper_bound { self.new.at ≤ self.old.at + 11 }
+    {
+        match v {
+            None => self.text(b"none"),
+            Some(v) => self.whole(v),
+        }
     }
-    put_field(b"leave=", thunk, out, 0)
-}
 
-// The answer, or none.
-fn put_out(o: Out, out: &mut [u8], at: usize) -> usize
-    requires { at + 11 ≤ length out.old }
-    ensures wrote { Wrote out.old at (out_text o) out.new result }
-    ensures upper_bound { result ≤ at + 11 }
-{
-    match o {
-        Out::None => put_text(b"none", out, at),
-        Out::Number(n) => put_whole(n, out, at),
-        Out::Value(v, _) => put_whole(v, out, at),
+    // The answer, or none.
+    fn answer(&mut self, out: Option<Out>)
+        requires { self.old.at + 11 ≤ longest }
+        ensures adds { Adds self.old (out_text out) self.new }
+        ensures upper_bound { self.new.at ≤ self.old.at + 11 }
+    {
+        match out {
+            None => self.text(b"none"),
+            Some(Out::Number(n)) => self.whole(n),
+            Some(Out::Value { value, .. }) => self.whole(value),
+        }
     }
-}
 
-// The end of an operation's line: the decider of a value, or none.
-fn put_by(o: Out, out: &mut [u8], at: usize) -> usize
-    requires { at + 15 ≤ length out.old }
-    ensures wrote { Wrote out.old at (by_text (by_of o)) out.new result }
-    ensures upper_bound { result ≤ at + 15 }
-{
-    match o {
-        Out::None => put_text(b" by=none\n", out, at),
-        Out::Number(_) => put_text(b" by=none\n", out, at),
-        Out::Value(_, by) => {
-            let next = put_field(b" by=", by, out, at);
-            put_text(b"\n", out, next)
+    // The end of an operation's line: the decider of a value, or none.
+    fn decider(&mut self, out: Option<Out>)
+        requires { self.old.at + 15 ≤ longest }
+        ensures adds { Adds self.old (by_text (by_of out)) self.new }
+        ensures upper_bound { self.new.at ≤ self.old.at + 15 }
+    {
+        match out {
+            None | Some(Out::Number(_)) => self.text(b" by=none\n"),
+            Some(Out::Value { by, .. }) => {
+                self.field(b" by=", by);
+                self.text(b"\n")
+            }
         }
     }
 }
@@ -94,14 +86,22 @@ pub fn put_op(report: Report, out: &mut [u8; Print::LINE]) -> usize
     ensures wrote { Wrote out.old 0 (op_line report) out.new result }
     ensures upper_bound { result ≤ longest }
 {
-    let o = report.out;
-    let a = put_field(b"op=", report.op, out, 0);
-    let b = put_field(b" code=", report.code, out, a);
-    let c = put_text(b" out=", out, b);
-    let d = put_out(o, out, c);
-    let e = put_field(b" moves=", report.moves, out, d);
-    let f = put_field(b" events=", report.events, out, e);
-    put_by(o, out, f)
+    let mut pen = Pen::new(out);
+    pen.field(b"op=", report.op);
+    pen.field(b" code=", report.code);
+    pen.text(b" out=");
+    pen.answer(report.out);
+    pen.field(b" moves=", report.moves);
+    pen.field(b" events=", report.events);
+    pen.decider(report.out);
+    pen.at
+}
+
+// The word of an event: its thunk is entered or left.
+fn kind_word(entering: bool) -> &'static [u8; 6]
+    ensures { result.now ≡ kind_text entering }
+{
+    if entering { b"enter=" } else { b"leave=" }
 }
 
 // The line of one trace event: the thunk entered or left, and its place.
@@ -109,9 +109,11 @@ pub fn put_event(entering: bool, thunk: u16, place: u32, out: &mut [u8; Print::L
     ensures wrote { Wrote out.old 0 (event_line entering thunk place) out.new result }
     ensures upper_bound { result ≤ longest }
 {
-    let a = put_kind(entering, thunk as u32, out);
-    let b = put_field(b"@", place, out, a);
-    put_text(b"\n", out, b)
+    let mut pen = Pen::new(out);
+    pen.field(kind_word(entering), u32::from(thunk));
+    pen.field(b"@", place);
+    pen.text(b"\n");
+    pen.at
 }
 
 // The one line of a card that is no good: its first bad line, and the answer number for that.
@@ -119,20 +121,24 @@ pub fn put_bad(line: u32, out: &mut [u8; Print::LINE]) -> usize
     ensures wrote { Wrote out.old 0 (bad_line line) out.new result }
     ensures upper_bound { result ≤ longest }
 {
-    let a = put_field(b"line=", line, out, 0);
-    put_text(b" code=9\n", out, a)
+    let mut pen = Pen::new(out);
+    pen.field(b"line=", line);
+    pen.text(b" code=9\n");
+    pen.at
 }
 
 // The line of a binding: its number, its variable, the value that it holds or none.
-pub fn put_bind(env: u32, x: u32, v: Out, out: &mut [u8; Print::LINE]) -> usize
+pub fn put_bind(env: u32, x: u32, v: Option<i32>, out: &mut [u8; Print::LINE]) -> usize
     ensures wrote { Wrote out.old 0 (bind_line env x v) out.new result }
     ensures upper_bound { result ≤ longest }
 {
-    let a = put_field(b"env=", env, out, 0);
-    let b = put_field(b" bind=", x, out, a);
-    let c = put_text(b",", out, b);
-    let d = put_out(v, out, c);
-    put_text(b"\n", out, d)
+    let mut pen = Pen::new(out);
+    pen.field(b"env=", env);
+    pen.field(b" bind=", x);
+    pen.text(b",");
+    pen.value(v);
+    pen.text(b"\n");
+    pen.at
 }
 
 // The line of a wind: its number and its thunks.
@@ -140,58 +146,71 @@ pub fn put_wind(env: u32, p: u32, q: u32, out: &mut [u8; Print::LINE]) -> usize
     ensures wrote { Wrote out.old 0 (wind_line env p q) out.new result }
     ensures upper_bound { result ≤ longest }
 {
-    let a = put_field(b"env=", env, out, 0);
-    let b = put_field(b" wind=", p, out, a);
-    let c = put_field(b",", q, out, b);
-    put_text(b"\n", out, c)
+    let mut pen = Pen::new(out);
+    pen.field(b"env=", env);
+    pen.field(b" wind=", p);
+    pen.field(b",", q);
+    pen.text(b"\n");
+    pen.at
 }
 
-// The line of the top.
+// The line of the top. It and the last line below are fixed texts; each keeps a function, since its promise names its line.
+#[tactic(auto, unfolding(crate::specs::Explaining::top_line))]
 pub fn put_top(out: &mut [u8; Print::LINE]) -> usize
     ensures wrote { Wrote out.old 0 top_line out.new result }
     ensures upper_bound { result ≤ longest }
 {
-    put_text(b"env=0 top\n", out, 0)
+    let mut pen = Pen::new(out);
+    pen.text(b"env=0 top\n");
+    pen.at
 }
 
 // The line of a binding behind the one that decides: its number, and the value that it holds or none.
-pub fn put_shadowed(env: u32, v: Out, out: &mut [u8; Print::LINE]) -> usize
+pub fn put_shadowed(env: u32, v: Option<i32>, out: &mut [u8; Print::LINE]) -> usize
     ensures wrote { Wrote out.old 0 (shadowed_line env v) out.new result }
     ensures upper_bound { result ≤ longest }
 {
-    let a = put_field(b"shadowed=", env, out, 0);
-    let b = put_text(b" value=", out, a);
-    let c = put_out(v, out, b);
-    put_text(b"\n", out, c)
+    let mut pen = Pen::new(out);
+    pen.field(b"shadowed=", env);
+    pen.text(b" value=");
+    pen.value(v);
+    pen.text(b"\n");
+    pen.at
 }
 
 // The line of the top value, or none.
-pub fn put_top_value(v: Out, out: &mut [u8; Print::LINE]) -> usize
+pub fn put_top_value(v: Option<i32>, out: &mut [u8; Print::LINE]) -> usize
     ensures wrote { Wrote out.old 0 (top_value_line v) out.new result }
     ensures upper_bound { result ≤ longest }
 {
-    let a = put_text(b"top=", out, 0);
-    let b = put_out(v, out, a);
-    put_text(b"\n", out, b)
+    let mut pen = Pen::new(out);
+    pen.text(b"top=");
+    pen.value(v);
+    pen.text(b"\n");
+    pen.at
 }
 
 // The last line where no value was found.
+#[tactic(auto, unfolding(crate::specs::Explaining::unbound_line))]
 pub fn put_unbound(out: &mut [u8; Print::LINE]) -> usize
     ensures wrote { Wrote out.old 0 unbound_line out.new result }
     ensures upper_bound { result ≤ longest }
 {
-    put_text(b"unbound\n", out, 0)
+    let mut pen = Pen::new(out);
+    pen.text(b"unbound\n");
+    pen.at
 }
 
-// A line put behind a place of a text; where the text has no room for it there, nothing is put.
+// A line put behind a place of a text; where the text has no room for it there, nothing is put. The place stays beside the text, since
+// the promise Puts names both for any text lent.
 pub fn put_line(line: &[u8], out: &mut [u8], at: usize) -> usize
     ensures { Puts line.now out.old at out.new result }
 {
-    if out.len() < at {
-        return at;
+    match at.checked_add(line.len()) {
+        Some(end) if end <= out.len() => {
+            out[at..end].copy_from_slice(line);
+            end
+        }
+        _ => at,
     }
-    if out.len() - at < line.len() {
-        return at;
-    }
-    put_text(line, out, at)
 }

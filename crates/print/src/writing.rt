@@ -1,7 +1,10 @@
-// Text written into a lent buffer: bytes, and plain decimals digit by digit, by division by ten.
-ghost use Rattle.std.specs.Prelude.{◌≡◌, ◌+◌, ◌≤◌, ◌%◌, nat_abs, length};
+// Text written into a lent line buffer: bytes, and plain decimals digit by digit, by division by ten.
+ghost use Rattle.std.specs.Prelude.{◌≡◌, ◌+◌, ◌++◌, ◌≤◌, ◌%◌, length};
 ghost use Rattle.text.specs.Decimal.{digit, decimal, whole};
-ghost use Rattle.print.specs.Writing.{Wrote};
+ghost use Rattle.print.specs.Printed.{longest};
+ghost use Rattle.print.specs.Writing.{Adds};
+
+use crate::Print;
 
 // The last digit of n, as a byte.
 fn glyph(n: u32) -> u8
@@ -10,7 +13,7 @@ fn glyph(n: u32) -> u8
     b'0' + (n % 10) as u8
 }
 
-// How many digits n has: each division by ten takes one away.
+// How many digits n has: each division by ten takes one away (document 02, W6: a loop by hand, which the edits decimals_1 and decimals_2 hold).
 fn count_places(n: u32) -> usize
     ensures { (result ≡ length (decimal n)) × (result ≤ 10) }
 {
@@ -18,76 +21,88 @@ fn count_places(n: u32) -> usize
     let mut k: usize = 0;
     loop {
         k += 1;
-        left = left / 10;
+        left /= 10;
         if left == 0 {
             return k;
         }
     }
 }
 
-// Writes the k digits of n at the place at, the last one first.
-fn put_digits(n: u32, k: usize, out: &mut [u8], at: usize)
-    requires { (k ≡ length (decimal n)) × (at + k ≤ length out.old) }
-    ensures { Wrote out.old at (decimal n) out.new (at + k) }
+// Writes the digits of n over a part that is as long, the last one first (W6 too).
+fn put_digits(n: u32, out: &mut [u8])
+    requires { length out.old ≡ length (decimal n) }
+    ensures { out.new ≡ decimal n }
 {
     let mut rest = n;
-    let mut p = at + k;
+    let mut p = out.len();
     loop {
         p -= 1;
         out[p] = glyph(rest);
-        rest = rest / 10;
+        rest /= 10;
         if rest == 0 {
             return;
         }
     }
 }
 
-// Writes n at the place at, and answers the place behind it.
-pub(crate) fn put_natural(n: u32, out: &mut [u8], at: usize) -> usize
-    requires { at + 10 ≤ length out.old }
-    ensures wrote { Wrote out.old at (decimal n) out.new result }
-    ensures upper_bound { result ≤ at + 10 }
-{
-    let k = count_places(n);
-    put_digits(n, k, out, at);
-    at + k
+// A pen on a lent line: the place at is behind what is written.
+#[derive(Drop)]
+pub(crate) struct Pen<'a> {
+    pub line: &'a mut [u8; Print::LINE],
+    pub at: usize,
 }
 
-// Writes the text at the place at, and answers the place behind it.
-pub(crate) fn put_text(text: &[u8], out: &mut [u8], at: usize) -> usize
-    requires { at + length text.now ≤ length out.old }
-    ensures { Wrote out.old at text.now out.new result }
-{
-    let mut i: usize = 0;
-    let mut p = at;
-    while i < text.len() {
-        out[p] = text[i];
-        p += 1;
-        i += 1;
+impl<'a> Pen<'a> {
+    // A pen at the front of the line.
+    pub fn new(line: &'a mut [u8; Print::LINE]) -> Pen<'a>
+        ensures same_line { result.line.ghost_name ≡ line.entry.ghost_name }
+        ensures at_front { (result.line.now ≡ line.old) × (result.at ≡ 0) }
+    {
+        Pen { line, at: 0 }
     }
-    p
-}
 
-// The value without its sign.
-fn magnitude(v: i32) -> u32
-    ensures { result ≡ nat_abs v }
-{
-    if 0 <= v {
-        v as u32
-    } else {
-        (-1 - v) as u32 + 1
+    // A text. (No part of what lies behind a reference in a field can be lent: the line is lent on whole first.)
+    pub fn text(&mut self, text: &[u8])
+        requires { self.old.at + length text.now ≤ longest }
+        ensures { Adds self.old text.now self.new }
+    {
+        let next = self.at + text.len();
+        let line = &mut *self.line;
+        line[self.at..next].copy_from_slice(text);
+        self.at = next;
     }
-}
 
-// Writes the value v at the place at, and answers the place behind it.
-pub(crate) fn put_whole(v: i32, out: &mut [u8], at: usize) -> usize
-    requires { at + 11 ≤ length out.old }
-    ensures wrote { Wrote out.old at (whole v) out.new result }
-    ensures upper_bound { result ≤ at + 11 }
-{
-    if 0 <= v {
-        return put_natural(magnitude(v), out, at);
+    // A number in plain decimals.
+    pub fn natural(&mut self, n: u32)
+        requires { self.old.at + 10 ≤ longest }
+        ensures adds { Adds self.old (decimal n) self.new }
+        ensures upper_bound { self.new.at ≤ self.old.at + 10 }
+    {
+        let next = self.at + count_places(n);
+        let line = &mut *self.line;
+        put_digits(n, &mut line[self.at..next]);
+        self.at = next;
     }
-    let next = put_text(b"-", out, at);
-    put_natural(magnitude(v), out, next)
+
+    // A value in plain decimals, with its sign where it is below 0.
+    pub fn whole(&mut self, v: i32)
+        requires { self.old.at + 11 ≤ longest }
+        ensures adds { Adds self.old (whole v) self.new }
+        ensures upper_bound { self.new.at ≤ self.old.at + 11 }
+    {
+        if v < 0 {
+            self.text(b"-");
+        }
+        self.natural(v.unsigned_abs());
+    }
+
+    // A word and a number behind it.
+    pub fn field(&mut self, word: &[u8], n: u32)
+        requires { self.old.at + length word.now + 10 ≤ longest }
+        ensures adds { Adds self.old (word.now ++ decimal n) self.new }
+        ensures upper_bound { self.new.at ≤ self.old.at + length word.now + 10 }
+    {
+        self.text(word);
+        self.natural(n);
+    }
 }

@@ -1,8 +1,8 @@
 // What a call on the store answers, and document 01's numbers for it. What each call promises stands in specs/.
 #![tactic(auto)]
 
-ghost use Rattle.std.specs.Prelude.{◌≡◌, pos, true, false};
-ghost use Rattle.promises.specs.Answers.{number_of, numbers, flat, untold};
+ghost use Rattle.std.specs.Prelude.{◌≡◌, pos, Some, None};
+ghost use Rattle.promises.specs.Answers.{number_of, stepped, numbers, flat, untold, numbers_told};
 
 // A new environment, and the events of making it.
 #[derive(Clone, Copy)]
@@ -26,19 +26,23 @@ pub struct Switch {
     pub events: u16,
 }
 
-// A step of a walk: the focus, the moves, and the event that it hands over, if any (1) or none (0): 1 entering or 0 leaving, its
-// thunk.
+// The event that a step hands over: whether a wind is entered or left, and the thunk that runs, either way.
+#[derive(Clone, Copy)]
+pub struct Handed {
+    pub entering: bool,
+    pub thunk: u16,
+}
+
+// A step of a walk: the focus, the moves, and the event that it hands over, if any.
 #[derive(Clone, Copy)]
 pub struct Step {
     pub focus: u16,
     pub moves: u16,
-    pub events: u16,
-    pub event: u16,
-    pub thunk: u16,
+    pub handed: Option<Handed>,
 }
 
 // Why a call is refused.
-#[derive(Clone, Copy)]
+#[derive(Clone, Copy, Debug, PartialEq, Eq)]
 pub enum Refusal {
     Setup,
     Damaged,
@@ -52,7 +56,7 @@ pub enum Refusal {
     NotWalking,
 }
 
-// What a call answers: a case for each kind of answer, and one for the refusals.
+// What a call that is not refused answers: a case for each kind of answer.
 #[derive(Clone, Copy)]
 pub enum Answer {
     Opened,
@@ -61,12 +65,28 @@ pub enum Answer {
     Value(Seen),
     Switched(Switch),
     Stepped(Step),
-    Refused(Refusal),
 }
 
-// What an environment is, beside code 0: kind 1 the top; 2 a binding, first its variable, value its own value where state is 1;
-// 3 a wind, first its prelude, second its postlude; and its parent. What does not apply is 0, as all is beside a refusal's number.
-#[derive(Clone, Copy)]
+// What an environment is, and its parent, which the top has not. A binding has its variable's own value there, if it has one.
+#[derive(Clone, Copy, Debug, PartialEq, Eq)]
+pub enum Environment {
+    Top,
+    Binding {
+        variable: u16,
+        value: Option<i32>,
+        parent: u16,
+    },
+    Wind {
+        prelude: u16,
+        postlude: u16,
+        parent: u16,
+    },
+}
+
+// The numbers of an environment, beside code 0: kind 1 the top; 2 a binding, first its variable, value its own value where state
+// is 1; 3 a wind, first its prelude, second its postlude; and its parent. What does not apply is 0, as all is beside a refusal's number.
+// They are numbers, and 0 for what is missing, since the definitions `telling` and `untold` have them so, and C shows them.
+#[derive(Clone, Copy, Default)]
 pub struct Told {
     pub value: i32,
     pub code: u16,
@@ -78,112 +98,102 @@ pub struct Told {
 }
 
 // Document 01's numbers of an answer: the answer itself, its number, the moves, the number of events; of a value the decider,
-// of a step the event that it hands over.
-#[derive(Clone, Copy)]
+// of a step the event that it hands over. Numbers, since the definition `numbers` has them so, and C and the card show them.
+#[derive(Clone, Copy, Default)]
 pub struct Flat {
     pub out: i32,
     pub code: u16,
     pub moves: u16,
     pub events: u16,
-    pub by: u16,
-    pub decided: bool,
+    pub by: Option<u16>,
     pub event: u16,
     pub thunk: u16,
 }
 
-fn number_of(r: Refusal) -> u16
-    ensures { result ≡ number_of r }
-{
-    match r {
-        Refusal::Setup => 1,
-        Refusal::Damaged => 2,
-        Refusal::NoVariable => 3,
-        Refusal::NoEnvironment => 4,
-        Refusal::Unbound => 5,
-        Refusal::Full => 6,
-        Refusal::TraceRoom => 7,
-        Refusal::Top => 8,
-        Refusal::Walking => 10,
-        Refusal::NotWalking => 11,
+// Document 01's number of a refusal. By a match and no discriminant, so that a fact refuses the edit damaged_as_setup.
+impl From<Refusal> for u16 {
+    ghost from_gives = { λ r n. n ≡ number_of r };
+
+    fn from(r: Refusal) -> u16 {
+        match r {
+            Refusal::Setup => 1,
+            Refusal::Damaged => 2,
+            Refusal::NoVariable => 3,
+            Refusal::NoEnvironment => 4,
+            Refusal::Unbound => 5,
+            Refusal::Full => 6,
+            Refusal::TraceRoom => 7,
+            Refusal::Top => 8,
+            Refusal::Walking => 10,
+            Refusal::NotWalking => 11,
+        }
     }
 }
 
 // Done, with the number of an environment, 0 moves and 0 events or more.
 fn done(n: u16, moves: u16, events: u16) -> Flat
-    ensures { result ≡ record { out = pos n; code = 0; moves = moves; events = events; by = 0; decided = false; event = 0; thunk = 0 } }
+    ensures { result ≡ record { out = pos n; code = 0; moves = moves; events = events; by = None; event = 0; thunk = 0 } }
 {
     Flat {
-        out: n as i32,
-        code: 0,
+        out: i32::from(n),
         moves,
         events,
-        by: 0,
-        decided: false,
-        event: 0,
-        thunk: 0,
+        ..Flat::default()
     }
 }
 
 // Done, with a value and its decider.
 fn valued(v: i32, by: u16) -> Flat
-    ensures { result ≡ record { out = v; code = 0; moves = 0; events = 0; by = by; decided = true; event = 0; thunk = 0 } }
+    ensures { result ≡ record { out = v; code = 0; moves = 0; events = 0; by = Some by; event = 0; thunk = 0 } }
 {
     Flat {
         out: v,
-        code: 0,
-        moves: 0,
-        events: 0,
-        by,
-        decided: true,
-        event: 0,
-        thunk: 0,
+        by: Some(by),
+        ..Flat::default()
     }
 }
 
 // A step, with what it hands over.
+#[tactic(auto, unfolding(crate::specs::Answers::flat))]
 fn handing(w: Step) -> Flat
-    ensures { result ≡ record { out = pos w.focus; code = 0; moves = w.moves; events = w.events; by = 0; decided = false; event = w.event; thunk = w.thunk } }
+    ensures { result ≡ flat (stepped w.focus w.moves w.handed) }
 {
-    Flat {
-        out: w.focus as i32,
-        code: 0,
-        moves: w.moves,
-        events: w.events,
-        by: 0,
-        decided: false,
-        event: w.event,
-        thunk: w.thunk,
+    let at = done(w.focus, w.moves, 0);
+    match w.handed {
+        Some(e) => Flat {
+            events: 1,
+            event: u16::from(e.entering),
+            thunk: e.thunk,
+            ..at
+        },
+        None => at,
     }
 }
 
 // A refusal answers 0 beside its number.
-fn refused(code: u16) -> Flat
-    ensures { result ≡ record { out = pos 0; code = code; moves = 0; events = 0; by = 0; decided = false; event = 0; thunk = 0 } }
+fn refused(r: Refusal) -> Flat
+    ensures { result ≡ record { out = pos 0; code = number_of r; moves = 0; events = 0; by = None; event = 0; thunk = 0 } }
 {
+    let code = u16::from(r);
     Flat {
-        out: 0,
         code,
-        moves: 0,
-        events: 0,
-        by: 0,
-        decided: false,
-        event: 0,
-        thunk: 0,
+        ..Flat::default()
     }
 }
 
-// The numbers of an answer.
-pub fn numbers_of(a: Answer) -> Flat
+// The numbers of an answer, or of a refusal.
+#[tactic(auto, unfolding(crate::specs::Answers::numbers, crate::specs::Answers::flat))]
+pub fn numbers_of(a: Result<Answer, Refusal>) -> Flat
     ensures { result ≡ flat (numbers a) }
 {
     match a {
-        Answer::Opened => done(0, 0, 0),
-        Answer::Number(n) => done(n, 0, 0),
-        Answer::Made(m) => done(m.node, 0, m.events),
-        Answer::Value(v) => valued(v.value, v.by),
-        Answer::Switched(w) => done(w.focus, w.moves, w.events),
-        Answer::Stepped(w) => handing(w),
-        Answer::Refused(r) => refused(number_of(r)),
+        Ok(Answer::Opened) => done(0, 0, 0),
+        Ok(Answer::Number(n)) => done(n, 0, 0),
+        Ok(Answer::Made(m)) => done(m.node, 0, m.events),
+        Ok(Answer::Value(v)) => valued(v.value, v.by),
+        Ok(Answer::Switched(w)) => done(w.focus, w.moves, w.events),
+        Ok(Answer::Stepped(w)) => handing(w),
+        Err(r) => refused(r),
     }
 }
 
@@ -192,12 +202,48 @@ pub fn untold(r: Refusal) -> Told
     ensures { result ≡ untold (number_of r) }
 {
     Told {
-        value: 0,
-        code: number_of(r),
-        kind: 0,
-        parent: 0,
-        first: 0,
-        second: 0,
-        state: 0,
+        code: u16::from(r),
+        ..Told::default()
+    }
+}
+
+// The numbers of what is told of an environment, or of a refusal.
+#[tactic(auto, unfolding(crate::specs::Answers::numbers_told))]
+pub fn numbers_told(a: Result<Environment, Refusal>) -> Told
+    ensures { result ≡ numbers_told a }
+{
+    match a {
+        Ok(Environment::Top) => Told {
+            kind: 1,
+            ..Told::default()
+        },
+        Ok(
+            Environment::Binding {
+                variable,
+                value,
+                parent,
+            },
+        ) => Told {
+            value: value.unwrap_or(0),
+            kind: 2,
+            parent,
+            first: variable,
+            state: u16::from(value.is_some()),
+            ..Told::default()
+        },
+        Ok(
+            Environment::Wind {
+                prelude,
+                postlude,
+                parent,
+            },
+        ) => Told {
+            kind: 3,
+            parent,
+            first: prelude,
+            second: postlude,
+            ..Told::default()
+        },
+        Err(r) => untold(r),
     }
 }

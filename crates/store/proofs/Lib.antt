@@ -1,4 +1,5 @@
-pub mod Signs
 pub mod Keeps
+pub mod Ranges
 pub mod Strides
 pub mod Tells
+pub mod Ways

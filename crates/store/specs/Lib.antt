@@ -1,2 +1,3 @@
--- What the store's private functions cite of answers.
+-- What the store's private functions cite: a cell as an answer, and a climb.
 pub mod Cells
+pub mod Climbs

@@ -8,10 +8,11 @@ ghost use Rattle.layout.specs.Lifts.{depth_at, Lifted};
 use crate::records::{depth_of, parent_of};
 
 // From a up to the environment on its way that is d deep.
-pub(crate) fn lift(s: &[u8], a: usize, d: usize) -> usize
+pub(crate) fn lift(s: &[u8], a: u16, d: u16) -> u16
     requires { Whole s.now × (IsMade s.now a × (d ≤ depth_at s.now a)) }
     ensures { Lifted s.now a d result }
 {
+    // where it ends is answered: a climb by hand, as trace's `rise_out`
     let mut at = a;
     while d < depth_of(s, at) {
         at = parent_of(s, at);
@@ -20,11 +21,12 @@ pub(crate) fn lift(s: &[u8], a: usize, d: usize) -> usize
 }
 
 // From two that are equally deep up to where they meet: so many nodes are passed.
-fn passed(s: &[u8], a: usize, b: usize) -> usize
+fn passed(s: &[u8], a: u16, b: u16) -> u16
     requires whole { Whole s.now × (IsMade s.now a × IsMade s.now b) }
     requires a_value { depth_at s.now a ≡ depth_at s.now b }
     ensures { result ≡ moves_from s.now a b }
 {
+    // two climbs in step, ended by where they meet: a `Way` has to be told its end
     let mut at = a;
     let mut to = b;
     let mut n = 0;
@@ -37,7 +39,7 @@ fn passed(s: &[u8], a: usize, b: usize) -> usize
 }
 
 // To or from the top it is the depth; else the deeper one is lifted first.
-pub(crate) fn between(s: &[u8], a: usize, b: usize) -> usize
+pub(crate) fn between(s: &[u8], a: u16, b: u16) -> u16
     requires { Whole s.now × (IsMade s.now a × IsMade s.now b) }
     ensures { result ≡ moves_from s.now a b }
 {

@@ -3,31 +3,22 @@ ghost use Rattle.std.specs.Prelude.{◌≡◌};
 ghost use Rattle.layout.specs.Kinds.{IsWind, is_in, is_out};
 ghost use Rattle.layout.specs.Sound.{Says};
 
-// In, of a binding or a wind.
+// In, of a binding or a wind. It and is_out keep a function each: `is_one_of(k, IN)` would say no more than the name.
 pub(crate) fn is_in(k: u8) -> bool
     ensures { result ≡ is_in k }
 {
-    match k {
-        3 | 5 => true,
-        _ => false,
-    }
+    matches!(k, 3 | 5)
 }
 
 // Out, of a binding or a wind: the top counts as in.
 pub(crate) fn is_out(k: u8) -> bool
     ensures { result ≡ is_out k }
 {
-    match k {
-        2 | 4 => true,
-        _ => false,
-    }
+    matches!(k, 2 | 4)
 }
 
 pub(crate) fn is_wind(k: u8) -> bool
     ensures { Says result (IsWind k) }
 {
-    match k {
-        4..=5 => true,
-        _ => false,
-    }
+    matches!(k, 4..=5)
 }

@@ -1,54 +1,45 @@
 // Numbers in bytes, little endian, and bare cells.
-ghost use Rattle.std.specs.Prelude.{◌≡◌, List, [], ◌∷◌, ℕ, ◌+◌, ◌<◌, ◌≤◌, length, get_or};
+ghost use Rattle.std.specs.Prelude.{◌≡◌, List, [], ◌∷◌, ℕ, ◌+◌, ◌<◌, ◌≤◌, length, get_or, MatchOption};
 ghost use Rattle.std.specs.Int.{w32};
 ghost use Rattle.std.proofs.Common.{to_z};
 ghost use Rattle.layout.specs.Bytes.{u16, put16};
 ghost use Rattle.layout.specs.Records.{bits_c};
+ghost use Rattle.layout.specs.View.{as_cell};
+ghost use Rattle.rules.specs.Values.{unbound, value};
 
 use layout::Store;
 
-pub(crate) fn wide(b: u8) -> usize
-    ensures { (result ≡ b) × (result < 256) }
-{
-    b as usize
-}
-
-fn wide32(b: u8) -> u32
-    ensures { (result ≡ b) × (result < 256) }
-{
-    b as u32
-}
-
 // The number at o, in two bytes.
-pub(crate) fn u16_at(p: &[u8], o: usize) -> usize
+pub(crate) fn u16_at(p: &[u8], o: usize) -> u16
     requires { o + 2 ≤ length p.now }
-    ensures { (result ≡ u16 p.now o) × (result < 65536) }
+    ensures { result ≡ u16 p.now o }
 {
-    wide(p[o]) + 256 * wide(p[o + 1])
+    u16::from_le_bytes([p[o], p[o + 1]])
 }
 
-pub(crate) fn put16_at(p: &mut [u8], o: usize, v: usize)
-    requires { (o + 2 ≤ length p.old) × (v < 65536) }
+pub(crate) fn put16_at(p: &mut [u8], o: usize, v: u16)
+    requires { o + 2 ≤ length p.old }
     ensures { p.new ≡ put16 p.old o v }
 {
-    p[o] = (v % 256) as u8;
-    p[o + 1] = (v / 256) as u8;
+    let [low, high] = v.to_le_bytes();
+    p[o] = low;
+    p[o + 1] = high;
 }
 
-// The value with the bits b.
-fn of_bits(b: u32) -> i32
-    ensures { result ≡ to_z w32 b }
-{
-    if b < 2_147_483_648 {
-        b as i32
-    } else {
-        -1 - (4_294_967_295 - b) as i32
-    }
-}
-
-// The value in a bare cell.
-pub(crate) fn value_of(c: [u8; Store::BARE]) -> i32
+// The four bytes of a bare cell's value.
+fn value_of(c: [u8; Store::BARE]) -> i32
     ensures { result ≡ to_z w32 (bits_c c) }
 {
-    of_bits(wide32(c[1]) + 256 * wide32(c[2]) + 65_536 * wide32(c[3]) + 16_777_216 * wide32(c[4]))
+    let [_, a, b, d, e] = c;
+    i32::from_le_bytes([a, b, d, e])
+}
+
+// The value in a bare cell, if it has one.
+pub(crate) fn value_in(c: [u8; Store::BARE]) -> Option<i32>
+    ensures { MatchOption result (as_cell c ≡ unbound) (λ v. as_cell c ≡ value v) }
+{
+    if c[0] == 0 {
+        return None;
+    }
+    Some(value_of(c))
 }

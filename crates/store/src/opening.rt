@@ -11,19 +11,9 @@ use crate::records::{
 };
 use layout::Store;
 
-fn clear(p: &mut [u8])
-    ensures { p.new ≡ replicate (length p.old) 0 }
-{
-    let mut i = 0;
-    while i < p.len() {
-        p[i] = 0;
-        i += 1;
-    }
-}
-
 // V, N, one environment made, the top as the focus, and no walk.
-fn put_head(s: &mut [u8], v: usize, n: usize)
-    requires { (header ≤ length s.old) × ((v < 65536) × (n < 65536)) }
+fn put_head(s: &mut [u8], v: u16, n: u16)
+    requires { header ≤ length s.old }
     ensures { s.new ≡ with_header s.old (head_b v n 1 0 none_n none_n) }
 {
     set_vars(s, v);
@@ -35,14 +25,12 @@ fn put_head(s: &mut [u8], v: usize, n: usize)
 }
 
 // The cells of v variables, one by one.
-fn put_cells(s: &mut [u8], v: usize, tops: &[u8])
+fn put_cells(s: &mut [u8], v: u16, tops: &[u8])
     requires { (v ≤ max_vars) × ((length tops.now ≡ bare_size * v) × (size_of v 0 ≤ length s.old)) }
     ensures { s.new ≡ with_cells s.old v (cells_b v tops.now) }
 {
-    let mut x = 0;
-    while x < v {
+    for x in 0..v {
         new_cell(s, x, top_cell(tops, x));
-        x += 1;
     }
 }
 
@@ -51,12 +39,12 @@ fn put_nodes(p: &mut [u8])
     requires { node_size ≤ length p.old }
     ensures { p.new ≡ nodes_b (length p.old) }
 {
-    clear(p);
+    p.fill(0);
     turn_node(p, 1);
 }
 
 // A store of v variables and n environments, written over the first bytes of s.
-pub(crate) fn open_at(s: &mut [u8], v: usize, n: usize, tops: &[u8])
+pub(crate) fn open_at(s: &mut [u8], v: u16, n: u16, tops: &[u8])
     requires { OpenFits v n tops.now × (size_of v n ≤ length s.old) }
     ensures { s.new ≡ open_b v n tops.now ++ drop (size_of v n) s.old }
 {

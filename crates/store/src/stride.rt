@@ -1,15 +1,14 @@
 // A walk in steps: document 02, W5. Where the next step stops is found out first; document 01's walk makes its moves.
-ghost use Rattle.std.specs.Prelude.{◌≡◌, ◌≢◌, ◌+◌, ◌<◌, length};
+ghost use Rattle.std.specs.Prelude.{◌≡◌, ◌≢◌, ◌≤◌, length, true, false, IfSome, Some, None, Ok};
 ghost use Rattle.rules.specs.Moves.{left, route};
-ghost use Rattle.layout.specs.Limits.{none_n};
-ghost use Rattle.layout.specs.Records.{room, focus, target, handed, with_target, with_handed, node_of, parent_n, var_n, post_n};
-ghost use Rattle.layout.specs.Fields.{Fit};
-ghost use Rattle.layout.specs.View.{view, or_none};
+ghost use Rattle.layout.specs.Limits.{header, none_n};
+ghost use Rattle.layout.specs.Records.{focus, target, handed, with_target, with_handed, node_of, var_n, post_n};
+ghost use Rattle.layout.specs.View.{view, as_option, or_none};
 ghost use Rattle.layout.specs.Sound.{Says, Whole, Sound};
 ghost use Rattle.layout.specs.Made.{IsMade};
 ghost use Rattle.layout.specs.Routes.{moves_to, meeting, OnWay};
 ghost use Rattle.layout.specs.Legs.{enters_first, Moved};
-ghost use Rattle.layout.specs.Legs.{FirstWind, Picks, Stops, Above};
+ghost use Rattle.layout.specs.Legs.{FirstWind, place_of, StopsAt, Above};
 ghost use Rattle.layout.specs.Legs.{leg_from, Goes};
 ghost use Rattle.promises.specs.declared.Answer.TheVariants as Answer;
 ghost use Rattle.rules.specs.Act.{step};
@@ -18,19 +17,43 @@ ghost use Rattle.promises.specs.Promises.{StrideDone};
 
 use crate::kinds::{is_out, is_wind};
 use crate::moves::walk;
+use crate::path::Way;
 use crate::records::{
     depth_of, focus_of, handed_of, kind_of, parent_of, post_of, set_handed, set_target, target_of,
     var_of,
 };
 use layout::Store;
-use promises::{Answer, Step};
+use promises::{Answer, Handed, Step};
+
+// A number of the header, where it isn't none.
+fn named(n: u16) -> Option<u16>
+    ensures { as_option result ≡ or_none n }
+{
+    (n != Store::NONE).then_some(n)
+}
+
+// Where the walk under way goes.
+pub(crate) fn target(s: &[u8]) -> Option<u16>
+    requires { header ≤ length s.now }
+    ensures { as_option result ≡ or_none (target s.now) }
+{
+    named(target_of(s))
+}
+
+// The wind whose entering was handed over.
+pub(crate) fn handed(s: &[u8]) -> Option<u16>
+    requires { header ≤ length s.now }
+    ensures { as_option result ≡ or_none (handed s.now) }
+{
+    named(handed_of(s))
+}
 
 // No walk is under way.
 pub(crate) fn at_rest(s: &[u8]) -> bool
     requires { Whole s.now }
     ensures { Says result (target s.now ≡ none_n) }
 {
-    target_of(s) == Store::NONE
+    target(s).is_none()
 }
 
 // The walk is over.
@@ -43,166 +66,148 @@ pub(crate) fn end(s: &mut [u8])
 }
 
 // The wind whose entering was handed over is entered, if there is one: so many moves.
-fn enter_handed(s: &mut [u8]) -> usize
+fn enter_handed(s: &mut [u8]) -> u16
     requires { Sound s.old × (target s.old ≢ none_n) }
     ensures value { result ≡ length (enters_first (or_none (handed s.old))) }
     ensures moved { Moved s.old s.new (enters_first (or_none (handed s.old))) (target s.old) none_n }
 {
-    let c = handed_of(s);
-    if c == Store::NONE {
+    let Some(c) = handed(s) else {
         return 0;
-    }
+    };
     set_handed(s, Store::NONE);
     walk(s, c);
     1
 }
 
-// The node n where it is a wind, else w.
-fn wind_or(s: &[u8], n: usize, w: usize) -> usize
-    requires { Fit s.now × (n < room s.now) }
-    ensures { Picks s.now n w result }
-{
-    if is_wind(kind_of(s, n)) {
-        return n;
-    }
-    w
-}
-
-// Where the climb from the target ends, and the last wind on it, 0 where there is none.
+// Where the climb from the target ends, and the last wind on it, if there is one.
 #[derive(Clone, Copy)]
 struct Rise {
-    at: usize,
-    wind: usize,
+    at: u16,
+    wind: Option<u16>,
 }
 
 // From the target up, while nodes are out. It ends at the meeting point.
-fn rise_to_meet(s: &[u8], a: usize) -> Rise
+fn rise_to_meet(s: &[u8], a: u16) -> Rise
     requires { Whole s.now × IsMade s.now a }
     ensures { Above s.now a result.at result.wind × (result.at ≡ meeting s.now a) }
 {
+    // where it ends is answered as well, as by trace's `rise_out`
     let mut at = a;
-    let mut wind = 0;
+    let mut wind = None;
     while is_out(kind_of(s, at)) {
-        wind = wind_or(s, at, wind);
+        if is_wind(kind_of(s, at)) {
+            wind = Some(at);
+        }
         at = parent_of(s, at);
     }
     Rise { at, wind }
 }
 
-// From the focus up to the meeting point, the first wind, 0 where there is none.
-fn first_left(s: &[u8], meet: usize) -> usize
+// From the focus up to the meeting point, the first wind, if there is one.
+fn first_left(s: &[u8], meet: u16) -> Option<u16>
     requires { Whole s.now × OnWay s.now meet }
     ensures first_wind { FirstWind (view s.now).tree left (route (view s.now).tree (focus s.now) meet) result }
-    ensures stops { Stops s.now result (parent_n (node_of s.now result)) }
+    ensures stops { IfSome result (λ w. StopsAt s.now w (place_of s.now w)) }
 {
-    let mut at = focus_of(s);
-    while at != meet {
-        if is_wind(kind_of(s, at)) {
-            return at;
+    for n in Way::new(s, focus_of(s), meet) {
+        if is_wind(kind_of(s, n)) {
+            return Some(n);
         }
-        at = parent_of(s, at);
     }
-    0
+    None
 }
 
-// To an environment whose way meets the focus's at `meet`: so many moves, told by the depths.
-fn go(s: &mut [u8], to: usize, meet: usize) -> usize
+// To an environment whose way meets the focus's at `meet`, with no event: so many moves, told by the depths.
+fn go(s: &mut [u8], to: u16, meet: u16) -> Step
     requires { Whole s.old × (IsMade s.old to × (meet ≡ meeting s.old to)) }
-    ensures value { result ≡ moves_to s.old to }
+    ensures value { result ≡ record { focus = to; moves = moves_to s.old to; handed = None } }
     ensures moved { Moved s.old s.new (route (view s.old).tree (focus s.old) to) (target s.old) (handed s.old) }
 {
     let f = focus_of(s);
     let moves = depth_of(s, f) + depth_of(s, to) - 2 * depth_of(s, meet);
     walk(s, to);
-    moves
+    Step {
+        focus: to,
+        moves,
+        handed: None,
+    }
 }
 
 // The wind w is left, and its postlude handed over.
-fn hand_left(s: &mut [u8], w: usize) -> Step
-    requires { Whole s.old × (IsMade s.old w × (IsMade s.old (parent_n (node_of s.old w)) × (meeting s.old (parent_n (node_of s.old w)) ≡ parent_n (node_of s.old w)))) }
-    ensures value { result ≡ record { focus = parent_n (node_of s.old w); moves = moves_to s.old (parent_n (node_of s.old w)); events = 1; event = 0; thunk = post_n (node_of s.old w) } }
-    ensures moved { Moved s.old s.new (route (view s.old).tree (focus s.old) (parent_n (node_of s.old w))) (target s.old) (handed s.old) }
+fn hand_left(s: &mut [u8], w: u16) -> Step
+    requires { Whole s.old × (IsMade s.old w × StopsAt s.old w (place_of s.old w)) }
+    ensures value { let place = place_of s.old w in result ≡ record { focus = place; moves = moves_to s.old place; handed = Some (record { entering = false; thunk = post_n (node_of s.old w) }) } }
+    ensures moved { Moved s.old s.new (route (view s.old).tree (focus s.old) (place_of s.old w)) (target s.old) (handed s.old) }
 {
-    let p = parent_of(s, w);
+    let place = parent_of(s, w);
     let thunk = post_of(s, w);
-    let moves = go(s, p, p);
+    let step = go(s, place, place);
     Step {
-        focus: p as u16,
-        moves: moves as u16,
-        events: 1,
-        event: 0,
-        thunk: thunk as u16,
+        handed: Some(Handed {
+            entering: false,
+            thunk,
+        }),
+        ..step
     }
 }
 
 // The wind w's prelude is handed over, before w is entered.
-fn hand_entered(s: &mut [u8], w: usize, meet: usize) -> Step
-    requires { Whole s.old × (IsMade s.old w × (IsMade s.old (parent_n (node_of s.old w)) × (meeting s.old (parent_n (node_of s.old w)) ≡ meet))) }
-    ensures value { result ≡ record { focus = parent_n (node_of s.old w); moves = moves_to s.old (parent_n (node_of s.old w)); events = 1; event = 1; thunk = var_n (node_of s.old w) } }
-    ensures moved { Moved s.old s.new (route (view s.old).tree (focus s.old) (parent_n (node_of s.old w))) (target s.old) w }
+fn hand_entered(s: &mut [u8], w: u16, meet: u16) -> Step
+    requires { Whole s.old × (IsMade s.old w × StopsAt s.old w meet) }
+    ensures value { let place = place_of s.old w in result ≡ record { focus = place; moves = moves_to s.old place; handed = Some (record { entering = true; thunk = var_n (node_of s.old w) }) } }
+    ensures moved { Moved s.old s.new (route (view s.old).tree (focus s.old) (place_of s.old w)) (target s.old) w }
 {
-    let p = parent_of(s, w);
+    let place = parent_of(s, w);
     let thunk = var_of(s, w);
-    let moves = go(s, p, meet);
+    let step = go(s, place, meet);
     set_handed(s, w);
     Step {
-        focus: p as u16,
-        moves: moves as u16,
-        events: 1,
-        event: 1,
-        thunk: thunk as u16,
+        handed: Some(Handed {
+            entering: true,
+            thunk,
+        }),
+        ..step
     }
 }
 
 // The target is reached, and the walk done.
-fn arrive(s: &mut [u8], a: usize, meet: usize) -> Step
+fn arrive(s: &mut [u8], a: u16, meet: u16) -> Step
     requires { Whole s.old × (IsMade s.old a × (meet ≡ meeting s.old a)) }
-    ensures value { result ≡ record { focus = a; moves = moves_to s.old a; events = 0; event = 0; thunk = 0 } }
+    ensures value { result ≡ record { focus = a; moves = moves_to s.old a; handed = None } }
     ensures moved { Moved s.old s.new (route (view s.old).tree (focus s.old) a) none_n none_n }
 {
-    let moves = go(s, a, meet);
+    let step = go(s, a, meet);
     end(s);
-    Step {
-        focus: a as u16,
-        moves: moves as u16,
-        events: 0,
-        event: 0,
-        thunk: 0,
-    }
+    step
 }
 
 // On to the next event, or to the target, where no wind waits to be entered.
 fn onward(s: &mut [u8]) -> Step
     requires { Whole s.old × (IsMade s.old (target s.old) × (handed s.old ≡ none_n)) }
-    ensures result_value { numbers (Answer.Stepped result) ≡ handing (focus s.new) (length (leg_from s.old (target s.old)).moves) (leg_from s.old (target s.old)).events }
+    ensures result_value { numbers (Ok (Answer.Stepped result)) ≡ handing (focus s.new) (length (leg_from s.old (target s.old)).moves) (leg_from s.old (target s.old)).events }
     ensures goes { Goes s.old s.new (leg_from s.old (target s.old)) }
 {
     let a = target_of(s);
     let rise = rise_to_meet(s, a);
     let meet = rise.at;
-    let to_enter = rise.wind;
-    let to_leave = first_left(s, meet);
-    if to_leave != 0 {
-        return hand_left(s, to_leave);
+    if let Some(w) = first_left(s, meet) {
+        hand_left(s, w)
+    } else if let Some(w) = rise.wind {
+        hand_entered(s, w, meet)
+    } else {
+        arrive(s, a, meet)
     }
-    if to_enter != 0 {
-        return hand_entered(s, to_enter, meet);
-    }
-    arrive(s, a, meet)
 }
 
 // A step: the wind whose entering was handed over is entered, then on to the next event, or to the target.
 pub(crate) fn go_on(s: &mut [u8]) -> Answer
     requires { Sound s.old × (target s.old ≢ none_n) }
-    ensures { StrideDone step s.old s.new (numbers result) }
+    ensures { StrideDone step s.old s.new (numbers (Ok result)) }
 {
     let before = enter_handed(s);
     let rest = onward(s);
     Answer::Stepped(Step {
-        focus: rest.focus,
-        moves: before as u16 + rest.moves,
-        events: rest.events,
-        event: rest.event,
-        thunk: rest.thunk,
+        moves: before + rest.moves,
+        ..rest
     })
 }

@@ -7,10 +7,9 @@ use native.Mathlib.Omega.{arith}
 use lib.IntN.{ℤ}
 use lib.ListN.{length, get_or, drop}
 use lib.Seq.{drop_at}
+use Rattle.std.specs.Prelude.{Option, None, Some}
 use Rattle.text.specs.declared.keys.Word.{Word}
 use Rattle.text.specs.declared.keys.Word.TheVariants as word
-use Rattle.text.specs.declared.line.Cell.{Cell}
-use Rattle.text.specs.declared.line.Cell.TheVariants as cell
 use Rattle.text.specs.declared.line.Line.{Line}
 use Rattle.text.specs.declared.line.Line.TheVariants as line
 use Rattle.text.specs.Words.{bytes}
@@ -44,11 +43,11 @@ pair_inj {B} spell inj a b e =
 not_none : (v : ℤ) → whole v ≡ bytes "none" → ⊥
 not_none v e = let l : All (λ b. b ≤ 57) (bytes "none") = subst (All (λ b. b ≤ 57)) e (low v) in let q : 110 ≤ 57 = l.0 in omega arith
 
-cell_inj : (c d : Cell) → operands (line.Top c) ≡ operands (line.Top d) → c ≡ d
-cell_inj (cell.Value v) (cell.Value w) e = ap cell.Value (whole_inj v w e)
-cell_inj (cell.Value v) cell.Unbound e = absurd (not_none v e)
-cell_inj cell.Unbound (cell.Value w) e = absurd (not_none w (sym e))
-cell_inj cell.Unbound cell.Unbound e = refl
+cell_inj : (c d : Option ℤ) → operands (line.Top c) ≡ operands (line.Top d) → c ≡ d
+cell_inj (Some v) (Some w) e = ap Some (whole_inj v w e)
+cell_inj (Some v) None e = absurd (not_none v e)
+cell_inj None (Some w) e = absurd (not_none w (sym e))
+cell_inj None None e = refl
 
 args_inj : (w : Word) (a b : Args w) → operands (make w a) ≡ operands (make w b) → a ≡ b
 args_inj word.Vars a b e = decimal_inj a b e

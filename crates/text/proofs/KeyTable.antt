@@ -1,31 +1,44 @@
 -- The table of key words: its entries, its rule by one computed test, and the comparison of a line with a key. Assumes nothing.
 use mathlib.Core.Path.{◌≡◌, refl, sym, ap, subst, ◌∙◌}
 use mathlib.Core.Bool.{Bool, true, false, cond}
-use mathlib.Core.List.{List, [], ◌∷◌, ◌++◌, map, append-nil}
-use Prim.Native.Nat.{ℕ, zero, suc, ◌+◌, ◌-◌, ◌<◌, ◌≤◌}
-use native.Mathlib.Numerals.{add-one}
+use mathlib.Core.List.{List, [], ◌∷◌, ◌++◌, map}
+use Prim.Native.Nat.{ℕ, zero, suc, ◌<◌, ◌≤◌}
 use native.Mathlib.Omega.{arith}
-use borrow.Author.Tests.{eqb-true, eqb-false}
+use borrow.Author.Tests.{eqb-true, eqb-false, clash}
 use lib.Dec.{T, eqb, lit<}
-use lib.ListN.{length, get_or, take, drop, replicate, length-append, take-append-drop, get_or-append}
-use lib.Seq.{take-suc, take_all, take-append_seam}
-use Rattle.text.specs.declared.keys.Key.{Key as Entry}
+use lib.ListN.{length, get_or, drop}
+use Rattle.std.specs.Prelude.{None, Some, nat_eq}
+use Rattle.std.specs.List.{starts_with}
+use Rattle.std.proofs.lemmas.Bool.Decides.{Decides-eqb}
+use Rattle.std.proofs.lemmas.Slice.Eq.{starts_is}
+use Rattle.text.specs.declared.keys.Key.{Key}
 use Rattle.text.specs.declared.keys.Word.{Word}
 use Rattle.text.specs.declared.keys.Word.TheVariants.{Vars, Nodes, Room, Top, Bind, Wind, Look, Set, Here, Goto, Back, Peek}
-use Rattle.text.specs.declared.keys.Found.TheVariants.{Key, Nothing}
 use Rattle.text.specs.Finds.{Tells, hit, miss}
-use Rattle.text.specs.Keys.{text, words, entry, word_at, Starts, Searched}
+use Rattle.text.specs.Keys.{text, numbers, words, word_at, IsEntry, Starts, Searched}
 use Rattle.text.proofs.Table.{every, at}
 
--- ---- entries
-looked : (ws : List Word) (i : ℕ) (d : Entry) → i < length ws → get_or (map entry ws) i d ≡ entry (get_or ws i Vars)
-looked [] i d h = absurd (omega arith)
-looked (w ∷ ws) zero d h = refl
-looked (w ∷ ws) (suc i) d h = looked ws i d (omega arith)
+-- ---- entries: what the table has, and what it is to have, compared at once by computing
+abbrev has : Key → List ℕ × ℕ × Word
+has k = (k.text.now, k.numbers, k.word)
 
-pub entry_at : (i : ℕ) (d : Entry) → i < 12 → get_or (map entry words) i d ≡ entry (word_at i)
+abbrev wants : Word → List ℕ × ℕ × Word
+wants w = (text w, numbers w, w)
+
+looked : (ws : List Word) (ks : List Key) (i : ℕ) (d : Key) → map has ks ≡ map wants ws → i < length ws → IsEntry (get_or ws i Vars) (get_or ks i d)
+looked [] ks i d e h = absurd (omega arith)
+looked (w ∷ ws) [] i d e h = absurd (omega (arith, ap length e))
+looked (w ∷ ws) (k ∷ ks) zero d e h =
+    let r : has k ≡ wants w = ap (λ l. get_or l 0 (wants w)) e in
+    record { text = ap (λ x. x.0) r; numbers = ap (λ x. x.1) r; word = ap (λ x. x.2) r }
+looked (w ∷ ws) (k ∷ ks) (suc i) d e h = looked ws ks i d (ap (drop 1) e) (omega arith)
+
+pub record Table (ks : List Key) : Type 0 where
+  pub same : map has ks ≡ map wants words
+
+pub entry_at : {ks : List Key} → Table ks → (i : ℕ) (d : Key) → i < 12 → IsEntry (word_at i) (get_or ks i d)
 unfolding word_at
-entry_at i d h = looked words i d h
+entry_at {ks} t i d h = looked words ks i d t.same h
 
 -- every word stands in the table
 pub place : (w : Word) → (i : ℕ) × (i < 12) × (word_at i ≡ w)
@@ -94,53 +107,24 @@ alone line w v f g =
     joined : text (word_at i) ++ f.rest ≡ text (word_at j) ++ g.rest
     joined = rw ((place w).2, (place v).2) (sym f.joined ∙ g.joined)
 
--- ---- an entry of the table against a line: its text without the blanks, and what the search has found
-module _ {k : Entry} (w : Word) (e : k ≡ entry w) where
-  pub inside : k.len ≤ length k.text
-  inside = rw e (rw length-append (omega arith))
+-- ---- an entry of the table against a line
+pub tells_start : {b : Bool} (s t : List ℕ) → b ≡ starts_with nat_eq s t → Tells b (Starts s t)
+tells_start {b} s t h = record { holds = λ e. record { rest = drop (length t) s; joined = is.0 e }; fails = λ e f. clash (sym e ∙ is.1 f.rest f.joined) }
+  where
+    is : (b ≡ true → s ≡ t ++ drop (length t) s) × ((rest : List ℕ) → s ≡ t ++ rest → b ≡ true)
+    is = starts_is Decides-eqb s t b h
 
-  unpadded : take k.len k.text ≡ text w
-  unpadded = rw e (take-append_seam (text w) (replicate (6 - length (text w)) 32))
+module _ {line : List ℕ} {w : Word} {k : Key} (e : IsEntry w k) where
+  pub searched : Starts line k.text.now → Searched line (Some k)
+  searched f =
+      let s : Starts line (text w) = rw e.text at f in
+      record { found = rw e.word (hit w s (λ v g. alone line w v s g)); entry = subst (λ (v : Word). IsEntry v k) (sym e.word) e }
 
-  pub searched : {line : List ℕ} → Starts line (take k.len k.text) → Searched line (Key k.word k.len k.numbers)
-  searched {line} f =
-      let s : Starts line (text w) = rw unpadded at f in
-      rw e (record { found = hit w s (λ v g. alone line w v s g); entry = (refl, refl) })
+  pub passed : (Starts line k.text.now → ⊥) → Starts line (text w) → ⊥
+  passed n = rw e.text at n
 
-  pub passed : {line : List ℕ} → (Starts line (take k.len k.text) → ⊥) → Starts line (text w) → ⊥
-  passed {line} f = rw unpadded at f
-
-pub through : {line : List ℕ} {i : ℕ} → 12 ≤ i → ((j : ℕ) → j < i → Starts line (text (word_at j)) → ⊥) → Searched line Nothing
+pub through : {line : List ℕ} {i : ℕ} → 12 ≤ i → ((j : ℕ) → j < i → Starts line (text (word_at j)) → ⊥) → Searched line None
 through {line} {i} h f = record { found = miss none_fits; entry = tt }
   where
     none_fits : (w : Word) → Starts line (text w) → ⊥
     none_fits w s = f (place w).0 (omega (arith, (place w).1)) (rw (place w).2 s)
-
--- ---- s and t agree up to j
-module _ (s t : List ℕ) (j : ℕ) (h : j < length t) where
-  pub too_short : length s ≤ j → Starts s t → ⊥
-  too_short g f = omega (arith, simp length-append at (ap length f.joined))
-
-  pub unlike : (get_or s j 0 ≡ get_or t j 0 → ⊥) → Starts s t → ⊥
-  unlike g f = g (rw f.joined (get_or-append t f.rest 0 j h))
-
-  pub one_more : j < length s → get_or s j 0 ≡ get_or t j 0 → take j s ≡ take j t → take (j + 1) s ≡ take (j + 1) t
-  one_more g e f = rw (add-one, take-suc s j 0 g, take-suc t j 0 h, e, f)
-
-pub all_same : (s t : List ℕ) (j : ℕ) → length t ≤ j → take j s ≡ take j t → Starts s t
-all_same s t j h e =
-    record { rest = drop j s; joined = sym (take-append-drop j s) ∙ ap (λ (l : List ℕ). l ++ drop j s) (e ∙ take_all j t h) }
-
--- ---- as long as t, and starting with t
-nothing : (l : List ℕ) → length l ≡ 0 → l ≡ []
-nothing [] h = refl
-nothing (x ∷ l) h = absurd (omega (arith, h))
-
-pub equal : {b : Bool} {s t : List ℕ} → length s ≡ length t → Tells b (Starts s t) → Tells b (s ≡ t)
-equal {b} {s} {t} h f = record { holds = yes_equal; fails = λ e q. f.fails e (record { rest = []; joined = q ∙ sym (append-nil t) }) }
-  where
-    yes_equal : b ≡ true → s ≡ t
-    yes_equal e =
-        let g : Starts s t = f.holds e in
-        let l : length s ≡ length t + length g.rest = ap length g.joined ∙ length-append t g.rest in
-        g.joined ∙ ap (λ (r : List ℕ). t ++ r) (nothing g.rest (omega arith)) ∙ append-nil t

@@ -2,7 +2,7 @@
 use mathlib.Core.Path.{◌≡◌, refl, sym, ap, ◌∙◌}
 use mathlib.Core.Bool.{Bool, true, false, cond}
 use mathlib.Core.Logic.{◌≢◌}
-use mathlib.Core.Option.{Option, none, some}
+use Rattle.std.specs.Prelude.{Option, None, Some}
 use mathlib.Core.List.{List, [], ◌∷◌, ◌++◌}
 use Prim.Native.Nat.{ℕ, ◌+◌, ◌<◌, ◌≤◌}
 use native.Mathlib.Omega.{arith}
@@ -11,7 +11,6 @@ use lib.Dec.{T, eqb}
 use lib.IntN.{ℤ, pos, negsuc}
 use lib.ListN.{length, take, drop}
 use lib.Seq.{length-take-le}
-use Rattle.text.specs.declared.line.Cell.TheVariants as cell
 use Rattle.text.specs.declared.line.Op.TheVariants as op
 use Rattle.text.specs.declared.line.Line.{Line}
 use Rattle.text.specs.declared.line.Line.TheVariants as line
@@ -56,8 +55,8 @@ behind_key : (l : Line) → Unbroken (operands l)
 behind_key (line.Vars n) = natural n
 behind_key (line.Nodes n) = natural n
 behind_key (line.Room n) = natural n
-behind_key (line.Top (cell.Value v)) = signed v
-behind_key (line.Top cell.Unbound) = tested (bytes "none") tt
+behind_key (line.Top (Some v)) = signed v
+behind_key (line.Top None) = tested (bytes "none") tt
 behind_key (line.Do (op.Bind x v)) = two (decimal x) (whole v) (natural x) (signed v)
 behind_key (line.Do (op.Wind p q)) = two (decimal p) (decimal q) (natural p) (natural q)
 behind_key (line.Do (op.Look x)) = natural x
@@ -72,7 +71,7 @@ one_line l = all_append (λ x. x ≢ 10) (text (key l)) (operands l) (tested (te
 
 -- ---- the part up to the first LF is the line
 module _ {s : List ℕ} {i : ℕ} (f : FirstAt 10 s i) where
-  pub no_end : length s ≤ i → Finds (Leads s) none
+  pub no_end : length s ≤ i → Finds (Leads s) None
   no_end h = miss (λ a p. (let w : i < length s = within (written a.0) p.rest f (one_line a.0) p.text in omega arith))
 
   -- the line that s begins with is the part's
@@ -80,10 +79,10 @@ module _ {s : List ℕ} {i : ℕ} (f : FirstAt 10 s i) where
   its a p = record { text = left (written a.0) p.rest f (one_line a.0) p.text; range = p.range }
 
   module _ {o : Option Line} (g : Finds (Good (take i s)) o) where
-    pub bad_line_lem : o ≡ none → Finds (Leads s) none
+    pub bad_line_lem : o ≡ None → Finds (Leads s) None
     bad_line_lem e = miss (λ a p. gone g e (its a p))
 
-    pub good_line : i < length s → {l : Line} → o ≡ some l → Finds (Leads s) (some (l, i + 1))
+    pub good_line : i < length s → {l : Line} → o ≡ Some l → Finds (Leads s) (Some (l, i + 1))
     good_line h {l} e = hit (l, i + 1) leads only
       where
         t : take i s ≡ written l

@@ -1,49 +1,41 @@
 -- Lines by their key words: what stands behind a word, and what the readers of it find. Assumes nothing.
 use mathlib.Core.Path.{◌≡◌, refl, sym, ap, subst, ◌∙◌}
-use mathlib.Core.Bool.{Bool, true, false, cond, not}
-use mathlib.Core.Option.{Option, none, some}
+use Rattle.std.specs.Prelude.{Option, None, Some, option_map}
 use mathlib.Core.List.{List, ◌++◌}
 use Prim.Native.Nat.{ℕ, ◌-◌, ◌<◌, ◌≤◌}
 use native.Mathlib.Omega.{arith}
-use lib.Dec.{T, T_not, eqb, leb, leb→le}
+use lib.Dec.{leb, leb→le}
 use lib.IntN.{ℤ, pos, negsuc}
 use lib.ListN.{length, take, drop, length-append}
 use lib.Seq.{drop_at}
-use borrow.Author.Tests.{eq-eqb}
-use denote.Enum.Declared.{tag_of}
 use mir.Syntax.{w32}
 use mir.Val.{of_z, to_z}
 use mir.ValLaws.{to_z-of_z}
-use types.Run.{OneOf}
 use Rattle.layout.specs.Limits.{max_nodes}
 use Rattle.text.specs.declared.keys.Word.{Word}
 use Rattle.text.specs.declared.keys.Word.TheVariants as word
-use Rattle.text.specs.declared.keys.Found.TheVariants.{Key, Nothing}
-use Rattle.text.specs.declared.line.Cell.{Cell}
-use Rattle.text.specs.declared.line.Cell.TheVariants as cell
+use Rattle.text.specs.declared.keys.Key.{Key}
 use Rattle.text.specs.declared.line.Op.TheVariants as op
 use Rattle.text.specs.declared.line.Line.{Line}
 use Rattle.text.specs.declared.line.Line.TheVariants as line
 use Rattle.text.specs.Words.{bytes}
-use Rattle.text.specs.Finds.{Finds, Tells, hit, miss, got, gone, same, finds_iff, carry_some, carry_none}
+use Rattle.text.specs.Finds.{Finds, hit, miss, got, gone, same, finds_iff, carry, carry_some, carry_none}
 use Rattle.text.specs.Decimal.{decimal, whole}
 use Rattle.text.specs.Every.{All, all_map}
 use Rattle.text.specs.DecimalLaws.{Digit, decimal_digits}
 use Rattle.text.specs.Limits.{max_number}
 use Rattle.text.specs.Numbers.{Within, Valued, IsValue, Counted}
-use Rattle.text.specs.Keys.{text, numbers, words, Starts, Searched}
+use Rattle.text.specs.Keys.{text, numbers, Starts, Searched}
 use Rattle.text.specs.Lines.{key, operands, InRange, Good, Pair, pair, Says}
-use Rattle.text.proofs.Table.{every, member, listed}
 use Rattle.text.proofs.KeyTable.{each}
 use Rattle.text.proofs.Cutting.{to_end}
-use Rattle.text.specs.contracts.keys.Word.{the_type}
 
 -- ---- a line is a key word and what stands behind it
 abbrev pub Args : Word → Type 0
 Args word.Vars = ℕ
 Args word.Nodes = ℕ
 Args word.Room = ℕ
-Args word.Top = Cell
+Args word.Top = Option ℤ
 Args word.Bind = ℕ × ℤ
 Args word.Wind = ℕ × ℕ
 Args word.Look = ℕ
@@ -109,11 +101,8 @@ module _ (w : Word) {s : List ℕ} {o : Option (Args w)} (f : Finds (Fit w s) o)
       go : (a : Args w) × (make w a ≡ l) → (a : Args w) × Fit w s a × (make w a ≡ l)
       go t = (t.0, (p.text ∙ ap operands (sym t.1), subst InRange (sym t.1) p.range), t.1)
 
-  pub said : {a : Args w} → o ≡ some a → Finds (Says (numbers w) w s) (some (make w a))
-  said {a} = carry_some (make w) there back f
-
-  pub unsaid : o ≡ none → Finds (Says (numbers w) w s) none
-  unsaid = carry_none (make w) there back f
+  pub said : Finds (Says (numbers w) w s) (option_map (make w) o)
+  said = carry (make w) there back f
 
 -- ---- numbers and pairs of them
 pub between : {s : List ℕ} {least most : ℕ} {o : Option ℕ} → Finds (Within s least most) o → Finds (λ n. (s ≡ decimal n) × ((least ≤ n) × (n ≤ most))) o
@@ -146,7 +135,7 @@ module _ {s : List ℕ} where
   unfolding whole
   as_pair a q = record { text = q.0; first = q.1.0; second = omega (arith, q.1.1) }
 
-  module _ {b : Option (ℕ × ℤ)} {x : ℕ} {v : ℤ} (f : Finds (Pair s) b) (e : b ≡ some (x, v)) {o : Option ℕ}
+  module _ {b : Option (ℕ × ℤ)} {x : ℕ} {v : ℤ} (f : Finds (Pair s) b) (e : b ≡ Some (x, v)) {o : Option ℕ}
       (g : Finds (Counted (to_z w32 (of_z w32 v)) max_number) o) where
     there_two : (n : ℕ) → Counted (to_z w32 (of_z w32 v)) max_number n → Two s (x, n)
     unfolding whole
@@ -159,10 +148,10 @@ module _ {s : List ℕ} where
         let h = same f e (as_pair a q) in
         (a.1, record { is = kept v (got f e).second ∙ ap (λ (c : ℕ × ℤ). c.1) h; high = q.1.1 }, λ j. ((h j).0, a.1))
 
-    pub two_some : {n : ℕ} → o ≡ some n → Finds (Two s) (some (x, n))
+    pub two_some : {n : ℕ} → o ≡ Some n → Finds (Two s) (Some (x, n))
     two_some {n} = carry_some (λ n. (x, n)) there_two back_two g
 
-    pub two_none : o ≡ none → Finds (Two s) none
+    pub two_none : o ≡ None → Finds (Two s) None
     two_none = carry_none (λ n. (x, n)) there_two back_two g
 
   -- what two numbers follow has a pair
@@ -180,30 +169,16 @@ module _ {s : List ℕ} where
   pair_of (line.Do op.Back) h e r = absurd (omega (arith, h))
   pair_of (line.Do (op.Peek a x)) h e r = (_, as_pair (a, x) (e, r))
 
-  pub no_pair : (w : Word) {b : Option (ℕ × ℤ)} → Finds (Pair s) b → b ≡ none → Finds (Says 2 w s) none
+  pub no_pair : (w : Word) {b : Option (ℕ × ℤ)} → Finds (Pair s) b → b ≡ None → Finds (Says 2 w s) None
   no_pair w {b} f e = miss (λ l p. gone f e (pair_of l (ap numbers p.word ∙ p.follow) p.text p.range).1)
 
--- ---- words that a match leaves over: a computed test that none of them has so many numbers
-abbrev spared : ℕ → List ℕ → ℕ → Word → Bool
-spared count ks i w = cond (eqb (numbers w) count) (not (member ks (tag_of the_type w))) true
-
-pub stray : {s : List ℕ} (count : ℕ) (ks : List ℕ) (w : Word) → T (every word.Vars (spared count ks) 0 words) → OneOf ks (tag_of the_type w) → Finds (Says count w s) none
-stray {s} count ks w t h = miss (λ l p. T_not (member ks (tag_of the_type w)) (only p.follow) (listed ks (tag_of the_type w) h))
-  where
-    only : numbers w ≡ count → T (not (member ks (tag_of the_type w)))
-    only e = rw (eq-eqb (numbers w) count e) at (each (spared count ks) t w)
-
 -- at most two numbers follow any word
-pub two_left : (w : Word) → (numbers w ≡ 0 → ⊥) → (numbers w ≡ 1 → ⊥) → numbers w ≡ 2
-two_left w h g = let l : numbers w ≤ 2 = leb→le (numbers w) 2 (each (λ i v. leb (numbers v) 2) tt w) in omega arith
+pub two_at_most : (w : Word) → numbers w ≤ 2
+two_at_most w = leb→le (numbers w) 2 (each (λ i v. leb (numbers v) 2) tt w)
 
 -- ---- fixed words
-pub fixed : (w : Word) {s : List ℕ} {b : Bool} (t : List ℕ) (a : Args w) → Fit w t a → ((c : Args w) → a ≡ c) → Tells b (s ≡ t) → b ≡ true →
-    Finds (Fit w s) (some a)
-fixed w {s} {b} t a p one f h = hit a (f.holds h ∙ p.0, p.1) (λ c q. one c)
-
-pub not_fixed : (w : Word) {s : List ℕ} {b : Bool} → (t : List ℕ) → ((a : Args w) → operands (make w a) ≡ t) → Tells b (s ≡ t) → b ≡ false → Finds (Fit w s) none
-not_fixed w {s} {b} t e f h = miss (λ a p. f.fails h (p.0 ∙ e a))
+pub fixed : (w : Word) {s : List ℕ} (t : List ℕ) (a : Args w) → Fit w t a → ((c : Args w) → a ≡ c) → s ≡ t → Finds (Fit w s) (Some a)
+fixed w {s} t a p one e = hit a (e ∙ p.0, p.1) (λ c q. one c)
 
 -- ---- a top value, or none
 pub low : (z : ℤ) → All (λ b. b ≤ 57) (whole z)
@@ -212,45 +187,44 @@ low (pos n) = all_map Digit (λ b. b ≤ 57) (λ b d. d.high) (decimal n) (decim
 low (negsuc n) = (omega arith, all_map Digit (λ b. b ≤ 57) (λ b d. d.high) (decimal (ℕ.suc n)) (decimal_digits (ℕ.suc n)))
 
 module _ {s : List ℕ} where
-  pub top_none : {b : Bool} → Tells b (s ≡ bytes "none") → b ≡ true → Finds (Fit word.Top s) (some cell.Unbound)
-  top_none {b} f h = hit cell.Unbound (f.holds h, tt) only
+  pub top_none : s ≡ bytes "none" → Finds (Fit word.Top s) (Some None)
+  top_none e = hit None (e, tt) only
     where
-      only : (c : Cell) → Fit word.Top s c → cell.Unbound ≡ c
-      only cell.Unbound p = refl
-      only (cell.Value v) p =
-          let l : All (λ b. b ≤ 57) (bytes "none") = subst (All (λ b. b ≤ 57)) (sym p.0 ∙ f.holds h) (low v) in
+      only : (c : Option ℤ) → Fit word.Top s c → None ≡ c
+      only None p = refl
+      only (Some v) p =
+          let l : All (λ b. b ≤ 57) (bytes "none") = subst (All (λ b. b ≤ 57)) (sym p.0 ∙ e) (low v) in
           let q : 110 ≤ 57 = l.0 in
           absurd (omega arith)
 
-  module _ {b : Bool} (f : Tells b (s ≡ bytes "none")) (h : b ≡ false) {o : Option ℤ} (g : Finds (Valued s) o) where
-    there_value : (v : ℤ) → Valued s v → Fit word.Top s (cell.Value v)
-    there_value v p = (p.text, p.range)
+  pub top_value : (s ≡ bytes "none" → ⊥) → {o : Option ℤ} → Finds (Valued s) o → Finds (Fit word.Top s) (option_map Some o)
+  top_value n {o} g = carry Some there_value back_value g
+    where
+      there_value : (v : ℤ) → Valued s v → Fit word.Top s (Some v)
+      there_value v p = (p.text, p.range)
 
-    back_value : (c : Cell) → Fit word.Top s c → (v : ℤ) × Valued s v × (cell.Value v ≡ c)
-    back_value cell.Unbound p = absurd (f.fails h p.0)
-    back_value (cell.Value v) p = (v, record { text = p.0; range = p.1 }, refl)
-
-    pub top_value : {v : ℤ} → o ≡ some v → Finds (Fit word.Top s) (some (cell.Value v))
-    top_value {v} = carry_some cell.Value there_value back_value g
-
-    pub top_bad : o ≡ none → Finds (Fit word.Top s) none
-    top_bad = carry_none cell.Value there_value back_value g
+      back_value : (c : Option ℤ) → Fit word.Top s c → (v : ℤ) × Valued s v × (Some v ≡ c)
+      back_value None p = absurd (n p.0)
+      back_value (Some v) p = (v, record { text = p.0; range = p.1 }, refl)
 
 -- ---- the whole line, by its key word
-module _ {s : List ℕ} {w : Word} {n k : ℕ} (f : Searched s (Key w n k)) where
-  starts : Starts s (text w)
+module _ {s : List ℕ} {k : Key} (f : Searched s (Some k)) where
+  starts : Starts s (text k.word)
   starts = got f.found refl
 
-  pub inside : n ≤ length s
-  inside = omega (arith, f.entry.0, ap length starts.joined ∙ length-append (text w) starts.rest)
+  size : length k.text.now ≡ length (text k.word)
+  size = ap length f.entry.text
 
-  behind : (t : List ℕ) → s ≡ text w ++ t → take (length s - n) (drop n s) ≡ t
-  behind t e = to_end s n ∙ ap (drop n) e ∙ drop_at (text w) t n (sym f.entry.0)
+  pub inside : length k.text.now ≤ length s
+  inside = omega (arith, size, ap length starts.joined ∙ length-append (text k.word) starts.rest)
 
-  pub by_word : {o : Option Line} → Finds (Says (numbers w) w (take (length s - n) (drop n s))) o → Finds (Good s) o
+  behind : (t : List ℕ) → s ≡ text k.word ++ t → take (length s - length k.text.now) (drop (length k.text.now) s) ≡ t
+  behind t e = to_end s (length k.text.now) ∙ ap (drop (length k.text.now)) e ∙ drop_at (text k.word) t (length k.text.now) (sym size)
+
+  pub by_word : {o : Option Line} → Finds (Says (numbers k.word) k.word (take (length s - length k.text.now) (drop (length k.text.now) s))) o → Finds (Good s) o
   by_word {o} = finds_iff good says
     where
-      good : (l : Line) → Says (numbers w) w (take (length s - n) (drop n s)) l → Good s l
+      good : (l : Line) → Says (numbers k.word) k.word (take (length s - length k.text.now) (drop (length k.text.now) s)) l → Good s l
       good l p =
           record {
             text = starts.joined ∙ ap (λ (v : Word). text v ++ starts.rest) (sym p.word)
@@ -258,9 +232,9 @@ module _ {s : List ℕ} {w : Word} {n k : ℕ} (f : Searched s (Key w n k)) wher
             range = p.range;
           }
 
-      says : (l : Line) → Good s l → Says (numbers w) w (take (length s - n) (drop n s)) l
+      says : (l : Line) → Good s l → Says (numbers k.word) k.word (take (length s - length k.text.now) (drop (length k.text.now) s)) l
       says l q =
-          let e : w ≡ key l = same f.found refl (record { rest = operands l; joined = q.text }) in
+          let e : k.word ≡ key l = same f.found refl (record { rest = operands l; joined = q.text }) in
           record {
             word = sym e;
             follow = refl;
@@ -268,5 +242,5 @@ module _ {s : List ℕ} {w : Word} {n k : ℕ} (f : Searched s (Key w n k)) wher
             range = q.range;
           }
 
-pub no_word : {s : List ℕ} → Searched s Nothing → Finds (Good s) none
+pub no_word : {s : List ℕ} → Searched s None → Finds (Good s) None
 no_word {s} f = miss (λ l q. gone {x = key l} f.found refl (record { rest = operands l; joined = q.text }))

@@ -1,7 +1,7 @@
 -- Two operands with a comma between them, cut at the first comma. Assumes nothing.
 use mathlib.Core.Path.{◌≡◌, sym, ap, ◌∙◌}
 use mathlib.Core.Logic.{◌≢◌}
-use mathlib.Core.Option.{Option, none, some}
+use Rattle.std.specs.Prelude.{Option, None, Some}
 use mathlib.Core.List.{List, ◌∷◌, ◌++◌}
 use Prim.Native.Nat.{ℕ, ◌+◌, ◌-◌, ◌<◌, ◌≤◌}
 use native.Mathlib.Omega.{arith}
@@ -21,7 +21,7 @@ pub no_comma : (n : ℕ) → All (λ x. x ≢ 44) (decimal n)
 no_comma n = all_map Digit (λ x. x ≢ 44) (λ x d e. (let l : 48 ≤ x = d.low in omega arith)) (decimal n) (decimal_digits n)
 
 module _ {s : List ℕ} {i : ℕ} (f : FirstAt 44 s i) where
-  pub uncut : length s ≤ i → Finds (Pair s) none
+  pub uncut : length s ≤ i → Finds (Pair s) None
   uncut h = miss (λ a p. (let w : i < length s = within (decimal a.0) (whole a.1) f (no_comma a.0) p.text in omega arith))
 
   -- a pair by its parts, the second as the code lends it
@@ -32,14 +32,14 @@ module _ {s : List ℕ} {i : ℕ} (f : FirstAt 44 s i) where
   )
 
   module _ {o : Option ℕ} (g : Finds (Within (take i s) 0 max_number) o) where
-    pub first_none : o ≡ none → Finds (Pair s) none
+    pub first_none : o ≡ None → Finds (Pair s) None
     first_none e = miss (λ a p. gone g e (apart a p).0)
 
     module _ {o' : Option ℤ} (h : Finds (Valued (take (length s - (i + 1)) (drop (i + 1) s))) o') where
-      pub second_none : o' ≡ none → Finds (Pair s) none
+      pub second_none : o' ≡ None → Finds (Pair s) None
       second_none e = miss (λ a p. gone h e (apart a p).1)
 
-      pub both : i < length s → {x : ℕ} {v : ℤ} → o ≡ some x → o' ≡ some v → Finds (Pair s) (some (x, v))
+      pub both : i < length s → {x : ℕ} {v : ℤ} → o ≡ Some x → o' ≡ Some v → Finds (Pair s) (Some (x, v))
       both l {x} {v} e e' = hit (x, v) fits only
         where
           fits : Pair s (x, v)

@@ -1,13 +1,14 @@
 -- Reading a plain decimal from the front: how it begins, one digit more, and where it ends. Assumes nothing.
 use mathlib.Core.Path.{◌≡◌, refl, sym, ap, ◌∙◌}
-use mathlib.Core.Bool.{true, false}
-use mathlib.Core.Option.{none, some}
+use mathlib.Core.Bool.{Bool, true, false}
+use Rattle.std.specs.Prelude.{None}
+use Rattle.std.specs.Bool.{then_some}
 use mathlib.Core.List.{List, [], ◌∷◌}
 use Prim.Native.Nat.{ℕ, zero, suc, ◌+◌, ◌-◌, ◌*◌, ◌<◌, ◌≤◌}
 use native.Mathlib.Numerals.{add-one}
 use native.Mathlib.Omega.{arith}
-use borrow.Author.Tests.{eqb-true, eqb-false}
-use lib.Dec.{eqb}
+use borrow.Author.Tests.{eqb-true, eqb-false, eq-eqb, ne_eqb, leb-true, leb-false, clash}
+use lib.Dec.{eqb, leb}
 use lib.ListN.{length, get_or, drop, drop_of_length-le}
 use lib.Seq.{drop-cons}
 use Rattle.text.specs.Finds.{Finds, hit, miss}
@@ -17,40 +18,43 @@ use Rattle.text.specs.DecimalLaws.{Digit, value_from, value, value_least, read_b
 use Rattle.text.specs.Numbers.{Grown, Within, misbegun}
 
 -- ---- the first bytes
-pub begins_empty : (s : List ℕ) → length s ≡ 0 → misbegun s ≡ true
+pub begins_empty : (s : List ℕ) → length s < 1 → true ≡ misbegun s
 unfolding misbegun
 begins_empty [] h = refl
-begins_empty (b ∷ s) h = absurd (omega (arith, h))
+begins_empty (b ∷ s) h = absurd (omega arith)
 
-pub begins_alone : (s : List ℕ) → length s ≡ 1 → misbegun s ≡ false
+pub begins_alone : (s : List ℕ) → 1 ≤ length s → length s < 2 → false ≡ misbegun s
 unfolding misbegun
-begins_alone [] h = absurd (omega (arith, h))
-begins_alone (b ∷ []) h = refl
-begins_alone (b ∷ x ∷ s) h = absurd (omega (arith, h))
+begins_alone [] h k = absurd (omega arith)
+begins_alone (b ∷ []) h k = refl
+begins_alone (b ∷ x ∷ s) h k = absurd (omega arith)
 
-pub begins_long : (s : List ℕ) → (length s ≡ 0 → ⊥) → (length s ≡ 1 → ⊥) → misbegun s ≡ eqb (get_or s 0 0) 48
+begins_long : (s : List ℕ) → 2 ≤ length s → eqb (get_or s 0 0) 48 ≡ misbegun s
 unfolding misbegun
-begins_long [] h k = absurd (h refl)
-begins_long (b ∷ []) h k = absurd (k refl)
-begins_long (b ∷ x ∷ s) h k = refl
+begins_long [] h = absurd (omega arith)
+begins_long (b ∷ []) h = absurd (omega arith)
+begins_long (b ∷ x ∷ s) h = refl
 
-clash : true ≡ false → ⊥
-clash e = let z : ◌≡◌ {A = ℕ} 0 1 = cc in omega arith
+pub begins_zero : (s : List ℕ) → 2 ≤ length s → get_or s 0 0 ≡ 48 → true ≡ misbegun s
+begins_zero s h e = sym (eq-eqb (get_or s 0 0) 48 e) ∙ begins_long s h
+
+pub begins_other : (s : List ℕ) → 2 ≤ length s → (get_or s 0 0 ≡ 48 → ⊥) → false ≡ misbegun s
+begins_other s h n = sym (ne_eqb (get_or s 0 0) 48 n) ∙ begins_long s h
 
 -- no decimal begins ill
 no_decimal : (n : ℕ) → misbegun (decimal n) ≡ true → ⊥
 unfolding misbegun decimal
-no_decimal zero e = clash (sym e)
+no_decimal zero e = clash e
 no_decimal (suc n) e = go (decimal_first (suc n) (omega arith))
   where
     ok : (x : ℕ) (t : List ℕ) → 48 < x → misbegun (x ∷ t) ≡ true → ⊥
-    ok x [] h f = clash (sym f)
+    ok x [] h f = clash f
     ok x (y ∷ t) h f = let q : x ≡ 48 = eqb-true x 48 f in omega arith
 
     go : (x : ℕ) × (t : List ℕ) × (decimal (suc n) ≡ x ∷ t) × (48 < x) → ⊥
     go w = ok w.0 w.1 w.3 (ap misbegun (sym w.2) ∙ e)
 
-pub ill : {least most : ℕ} (s : List ℕ) → misbegun s ≡ true → Finds (Within s least most) none
+pub ill : {least most : ℕ} (s : List ℕ) → misbegun s ≡ true → Finds (Within s least most) None
 ill s e = miss (λ n w. no_decimal n (ap misbegun (sym w.text) ∙ e))
 
 -- ---- i bytes of s have been read, and their number is v
@@ -78,7 +82,7 @@ module _ {s : List ℕ} {v i : ℕ} (f : Sofar s v i) (h : i < length s) where
       }
 
   -- no digit may stand next
-  pub stuck : {least most : ℕ} → ((w : ℕ) → Grown v (get_or s i 0) most w → ⊥) → Finds (Within s least most) none
+  pub stuck : {least most : ℕ} → ((w : ℕ) → Grown v (get_or s i 0) most w → ⊥) → Finds (Within s least most) None
   stuck {least} {most} g = miss none_fits
     where
       w : ℕ
@@ -96,7 +100,7 @@ module _ {s : List ℕ} {v i : ℕ} (f : Sofar s v i) (h : i < length s) where
 -- ---- all of s has been read
 written : (s : List ℕ) → misbegun s ≡ false → All Digit s → s ≡ decimal (value s)
 unfolding misbegun value_from
-written [] e d = absurd (clash e)
+written [] e d = absurd (clash (sym e))
 written (b ∷ []) e d =
     let low : 48 ≤ b = d.0.low in
     let high : b ≤ 57 = d.0.high in
@@ -119,8 +123,10 @@ module _ {s : List ℕ} {v i : ℕ} (f : Sofar s v i) (h : length s ≤ i) where
   its_number : {least most n : ℕ} → Within s least most n → v ≡ n
   its_number {least} {most} {n} w = sym all_read ∙ ap value w.text ∙ read_back n
 
-  pub too_low : {least most : ℕ} → v < least → Finds (Within s least most) none
-  too_low {least} {most} l = miss (λ n w. (let e : v ≡ n = its_number w in let g : least ≤ n = w.low in omega arith))
-
-  pub done : {least most : ℕ} → least ≤ v → v ≤ most → Finds (Within s least most) (some v)
-  done {least} {most} l m = hit v (record { text = text; low = l; high = m }) (λ n w. its_number w)
+  -- v is the number, unless it is too low
+  pub done : {least most : ℕ} → v ≤ most → Finds (Within s least most) (then_some (leb least v) v)
+  done {least} {most} m = go (leb least v) refl
+    where
+      go : (b : Bool) → leb least v ≡ b → Finds (Within s least most) (then_some b v)
+      go true e = hit v (record { text = text; low = leb-true least v e; high = m }) (λ n w. its_number w)
+      go false e = miss (λ n w. omega (arith, leb-false least v e, its_number w, w.low))

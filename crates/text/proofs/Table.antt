@@ -1,15 +1,11 @@
--- A rule of a table, proved at all of its entries by one test that antt computes; and what a `match` leaves over, by another.
--- Assumes nothing.
-use mathlib.Core.Path.{◌≡◌, ◌∙◌, subst, sym}
-use mathlib.Core.Bool.{Bool, true, false, cond, not}
-use mathlib.Core.Logic.{inl, inr}
+-- A rule of a table, proved at all of its entries by one test that antt computes. Assumes nothing.
+use mathlib.Core.Path.{◌∙◌, subst, sym}
+use mathlib.Core.Bool.{Bool, true, false}
 use mathlib.Core.List.{List, [], ◌∷◌}
 use Prim.Native.Nat.{ℕ, zero, suc, ◌+◌, ◌<◌}
 use native.Mathlib.Nat.{add-zero, zero-add, add-suc, suc-add, le_of_suc-le-suc, not-suc-le-zero}
-use borrow.Author.Tests.{eq-eqb}
-use lib.Dec.{T, T_not, eqb}
+use lib.Dec.{T}
 use lib.ListN.{length, get_or}
-use types.Run.{OneOf}
 
 abbrev pub both : Bool → Bool → Bool
 both true b = b
@@ -38,21 +34,3 @@ module _ {A : Type 0} (blank : A) (f : ℕ → A → Bool) where
 
   pub at : (xs : List A) → T (every 0 xs) → (k : ℕ) → k < length xs → T (f k (get_or xs k blank))
   at xs t k h = subst (λ (m : ℕ). T (f m (get_or xs k blank))) (zero-add k) (from xs 0 t k h)
-
--- ---- a number among those that an arm of a match takes
-abbrev pub member : List ℕ → ℕ → Bool
-member [] x = false
-member (k ∷ ks) x = cond (eqb x k) true (member ks x)
-
-later : (b c : Bool) → T c → T (cond b true c)
-later true c t = tt
-later false c t = t
-
-pub listed : (ks : List ℕ) (x : ℕ) → OneOf ks x → T (member ks x)
-listed [] x h = h
-listed (k ∷ []) x h = rw (eq-eqb x k h) tt
-listed (k ∷ j ∷ ks) x (inl e) = rw (eq-eqb x k e) tt
-listed (k ∷ j ∷ ks) x (inr h) = later (eqb x k) (member (j ∷ ks) x) (listed (j ∷ ks) x h)
-
-pub not_taken : {x : ℕ} (ks : List ℕ) (k : ℕ) → T (not (member ks k)) → x ≡ k → OneOf ks x → ⊥
-not_taken {x} ks k t e h = T_not (member ks k) t (subst (λ (n : ℕ). T (member ks n)) e (listed ks x h))

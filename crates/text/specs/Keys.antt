@@ -1,12 +1,9 @@
 -- The card's key words and how many numbers follow each (document 01, "The card"), and the table of them.
 -- Assumes nothing: these are definitions.
-use Rattle.std.specs.Prelude.{◌≡◌, List, [], ◌∷◌, ◌++◌, ℕ, ◌-◌, length, get_or, replicate}
-use Rattle.std.proofs.Math.Option.{Option, none, some}
+use Rattle.std.specs.Prelude.{◌≡◌, List, [], ◌∷◌, ◌++◌, ℕ, get_or, Option, IfSome, option_map}
 use Rattle.text.specs.declared.keys.Word.{Word}
 use Rattle.text.specs.declared.keys.Word.TheVariants.{Vars, Nodes, Room, Top, Bind, Wind, Look, Set, Here, Goto, Back, Peek}
 use Rattle.text.specs.declared.keys.Key.{Key}
-use Rattle.text.specs.declared.keys.Found.{Found}
-use Rattle.text.specs.declared.keys.Found.TheVariants as found
 use Rattle.text.specs.Words.{bytes}
 use Rattle.text.specs.Finds.{Finds}
 
@@ -40,12 +37,14 @@ numbers Goto = 1
 numbers Back = 0
 numbers Peek = 2
 
--- the words in the table's order, and the table: each text padded with blanks to six bytes
+-- the words in the table's order, and what the table has of a word
 abbrev pub words : List Word
 words = Vars ∷ Nodes ∷ Room ∷ Top ∷ Bind ∷ Wind ∷ Look ∷ Set ∷ Here ∷ Goto ∷ Back ∷ Peek ∷ []
 
-abbrev pub entry : Word → Key
-entry w = record { text = text w ++ replicate (6 - length (text w)) 32; len = length (text w); numbers = numbers w; word = w }
+pub record IsEntry (w : Word) (k : Key) : Type 0 where
+  pub text : k.text.now ≡ text w
+  pub numbers : k.numbers ≡ numbers w
+  pub word : k.word ≡ w
 
 unfoldable pub word_at : ℕ → Word
 word_at i = get_or words i Vars
@@ -55,15 +54,7 @@ pub record Starts (s t : List ℕ) : Type 0 where
   pub rest : List ℕ
   pub joined : s ≡ t ++ rest
 
--- the search answers the word that the line starts with, its length and count, or that there is none
-abbrev pub word_of : Found → Option Word
-word_of (found.Key w n k) = some w
-word_of found.Nothing = none
-
-abbrev pub Entry : Found → Type 0
-Entry (found.Key w n k) = (n ≡ length (text w)) × (k ≡ numbers w)
-Entry found.Nothing = Unit {0}
-
-pub record Searched (line : List ℕ) (r : Found) : Type 0 where
-  pub found : Finds (λ w. Starts line (text w)) (word_of r)
-  pub entry : Entry r
+-- the search answers the word that the line starts with, as the table has it, or that there is none
+pub record Searched (line : List ℕ) (r : Option Key) : Type 0 where
+  pub found : Finds (λ w. Starts line (text w)) (option_map (λ k. k.word) r)
+  pub entry : IfSome r (λ k. IsEntry k.word k)

@@ -1,20 +1,12 @@
 -- What a good line of the card says and how it is written (document 01, "The card"), without its LF.
 -- Assumes nothing: these are definitions.
-use Rattle.std.specs.Prelude.{◌≡◌, List, ◌++◌, ℕ, ◌+◌, ◌<◌, ◌≤◌, ℤ, length, get_or}
-use Rattle.std.proofs.Math.Option.{Option, none, some}
+use Rattle.std.specs.Prelude.{◌≡◌, List, ◌++◌, ℕ, ◌+◌, ◌<◌, ◌≤◌, ℤ, length, get_or, None, Some}
 use Rattle.layout.specs.Limits.{max_vars, max_nodes}
 use Rattle.text.specs.declared.keys.Word.{Word}
 use Rattle.text.specs.declared.keys.Word.TheVariants as word
-use Rattle.text.specs.declared.line.Cell.TheVariants as cell
 use Rattle.text.specs.declared.line.Op.TheVariants as op
 use Rattle.text.specs.declared.line.Line.{Line}
 use Rattle.text.specs.declared.line.Line.TheVariants as line
-use Rattle.text.specs.declared.line.Reading.{Reading}
-use Rattle.text.specs.declared.line.Reading.TheVariants as reading
-use Rattle.text.specs.declared.line.Next.{Next}
-use Rattle.text.specs.declared.line.Next.TheVariants as next
-use Rattle.text.specs.declared.line.Bound.{Bound}
-use Rattle.text.specs.declared.line.Bound.TheVariants as bound
 use Rattle.text.specs.Words.{bytes}
 use Rattle.text.specs.Decimal.{decimal, whole}
 use Rattle.text.specs.Numbers.{IsValue}
@@ -44,8 +36,8 @@ abbrev pub operands : Line → List ℕ
 operands (line.Vars n) = decimal n
 operands (line.Nodes n) = decimal n
 operands (line.Room n) = decimal n
-operands (line.Top (cell.Value v)) = whole v
-operands (line.Top cell.Unbound) = bytes "none"
+operands (line.Top (Some v)) = whole v
+operands (line.Top None) = bytes "none"
 operands (line.Do (op.Bind x v)) = pair (decimal x) (whole v)
 operands (line.Do (op.Wind p q)) = pair (decimal p) (decimal q)
 operands (line.Do (op.Look x)) = decimal x
@@ -63,8 +55,8 @@ abbrev pub InRange : Line → Type 0
 InRange (line.Vars n) = (1 ≤ n) × (n ≤ max_vars)
 InRange (line.Nodes n) = (1 ≤ n) × (n ≤ max_nodes)
 InRange (line.Room n) = n < max_nodes
-InRange (line.Top (cell.Value v)) = IsValue v
-InRange (line.Top cell.Unbound) = Unit {0}
+InRange (line.Top (Some v)) = IsValue v
+InRange (line.Top None) = Unit {0}
 InRange (line.Do (op.Bind x v)) = (x ≤ max_number) × IsValue v
 InRange (line.Do (op.Wind p q)) = (p ≤ max_number) × (q ≤ max_number)
 InRange (line.Do (op.Look x)) = x ≤ max_number
@@ -86,19 +78,7 @@ pub record Leads (s : List ℕ) (a : Line × ℕ) : Type 0 where
   pub range : InRange a.0
   pub size : a.1 ≡ length (written a.0) + 1
 
--- ---- the answers as options, and what the parts of the reader promise
-abbrev pub line_of : Reading → Option Line
-line_of (reading.Good l) = some l
-line_of reading.Bad = none
-
-abbrev pub next_of : Next → Option (Line × ℕ)
-next_of (next.Good l n) = some (l, n)
-next_of next.Bad = none
-
-abbrev pub bound_of : Bound → Option (ℕ × ℤ)
-bound_of (bound.Both x v) = some (x, v)
-bound_of bound.Bad = none
-
+-- ---- what the parts of the reader promise
 -- i is the first place of b in s, or the length where b does not stand there
 pub record FirstAt (b : ℕ) (s : List ℕ) (i : ℕ) : Type 0 where
   pub inside : i ≤ length s

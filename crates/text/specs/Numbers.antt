@@ -1,22 +1,8 @@
 -- What the readers of numbers promise: the number whose plain decimal the text is, within limits, or that there is none.
 -- Assumes nothing: these are definitions.
 use Rattle.std.specs.Prelude.{◌≡◌, Bool, true, false, List, [], ◌∷◌, ℕ, ◌+◌, ◌-◌, ◌*◌, ◌≤◌, eqb, ℤ, pos, negsuc}
-use Rattle.std.proofs.Math.Option.{Option, none, some}
-use Rattle.text.specs.declared.decimal.Natural.{Natural}
-use Rattle.text.specs.declared.decimal.Natural.TheVariants.{Value, Bad}
-use Rattle.text.specs.declared.decimal.Whole.{Whole}
-use Rattle.text.specs.declared.decimal.Whole.TheVariants as whole_number
 use Rattle.text.specs.Decimal.{decimal, whole}
 use Rattle.text.specs.DecimalLaws.{Digit}
-
--- the answers as options
-abbrev pub natural_of : Natural → Option ℕ
-natural_of (Value n) = some n
-natural_of Bad = none
-
-abbrev pub whole_of : Whole → Option ℤ
-whole_of (whole_number.Value z) = some z
-whole_of whole_number.Bad = none
 
 -- s is the plain decimal of n, and n lies within limits
 pub record Within (s : List ℕ) (least most n : ℕ) : Type 0 where

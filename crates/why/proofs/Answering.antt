@@ -4,19 +4,18 @@ use mathlib.Core.List.{List, ◌++◌}
 use Prim.Native.Nat.{ℕ, ◌+◌, ◌≤◌, ◌<◌}
 use native.Mathlib.Omega.{arith}
 use lib.ListN.{length, take}
-use Rattle.play.specs.declared.Handed.{Handed}
+use Rattle.std.specs.Prelude.{Result, Ok}
 use Rattle.play.specs.Steps.{AllLeft}
 use Rattle.play.proofs.Texts.{line_long, front}
-use Rattle.why.specs.declared.asked.Question.TheVariants.{Peek}
-use Rattle.why.specs.Asking.{Asks}
+use Rattle.why.specs.Asking.{peek, Asks}
 use Rattle.why.specs.Explained.{Explains}
 use Rattle.why.specs.Saying.{Says, reasons, Ends}
 
-pub answer_ends : (card s : List ℕ) (r : Handed) (m a x : ℕ) {out out' : List ℕ} {k : ℕ} → Asks card (Peek a x) → r ≡ Handed.To m → AllLeft card s r
+pub answer_ends : {E : Type 0} (card s : List ℕ) (r : Result ℕ E) (m a x : ℕ) {out out' : List ℕ} {k : ℕ} → Asks card (peek a x) → r ≡ Ok m → AllLeft card s r
     → Explains s a x out out' k → k ≤ 196704 → Ends card m (take k out') × (m + length (take k out') < 18446744073709551616)
-answer_ends card s r m a x {out} {out'} {k} asks e all f h = go (subst (AllLeft card s) e all)
+answer_ends {E} card s r m a x {out} {out'} {k} asks e all f h = go (subst (AllLeft card s) e all)
   where
-    go : AllLeft card s (Handed.To m) → Ends card m (take k out') × (m + length (take k out') < 18446744073709551616)
+    go : AllLeft {E = E} card s (Ok m) → Ends card m (take k out') × (m + length (take k out') < 18446744073709551616)
     go (text, leaves, count, few) = (
       record {
         before = text;

@@ -5,17 +5,19 @@ use Prim.Native.Nat.{ℕ, ◌+◌, ◌-◌, ◌≤◌, ◌<◌}
 use native.Mathlib.Omega.{arith}
 use lib.ListN.{length, take, drop, length-append, length-drop}
 use Rattle.text.specs.declared.line.Line.{Line}
-use Rattle.text.specs.declared.line.Next.{Next}
+use Rattle.std.specs.Prelude.{None, Some, Result}
 use Rattle.text.specs.Finds.{Finds}
-use Rattle.text.specs.Lines.{written, Leads, next_of}
+use Rattle.text.specs.Lines.{written, Leads}
 use Rattle.card.specs.Cards.{Whole, Passes, text}
 use Rattle.play.specs.Steps.{Ahead}
-use Rattle.play.proofs.Lines.{there, at_end, within, is_missing, is_found}
-use Rattle.why.specs.declared.asked.Question.{Question}
+use Rattle.card.specs.declared.check.BadLine.{BadLine}
+use Rattle.card.proofs.Rest.{at_place}
+use Rattle.play.proofs.Lines.{at_end, within, is_missing, is_found}
+use Rattle.why.specs.declared.asked.Peek.{Peek}
 use Rattle.why.specs.Asking.{asked_by, Asks, last}
 
 -- some lines were read, and others stand ahead; the last that was read asks this, if any was read
-pub record Reading (card : List ℕ) (g : Passes card) (at lines : ℕ) (asks : Question) : Type 0 where
+pub record Reading (card : List ℕ) (g : Passes card) (at lines : ℕ) (asks : Result Peek BadLine) : Type 0 where
   pub front : List Line
   pub rest : List Line
   pub whole : g.1.lines ≡ front ++ rest
@@ -24,7 +26,7 @@ pub record Reading (card : List ℕ) (g : Passes card) (at lines : ℕ) (asks : 
   pub ahead : Ahead card at rest
   pub read : 1 ≤ lines → (before : List Line) × (l : Line) × (front ≡ before ++ (l ∷ [])) × (asks ≡ asked_by l lines)
 
-pub reading_none : {card : List ℕ} (g : Passes card) (asks : Question) → Reading card g 0 0 asks
+pub reading_none : {card : List ℕ} (g : Passes card) (asks : Result Peek BadLine) → Reading card g 0 0 asks
 reading_none {card} g asks =
     record {
       front = [];
@@ -36,7 +38,7 @@ reading_none {card} g asks =
       read = λ h. absurd (omega arith);
     }
 
-module _ {card : List ℕ} {g : Passes card} {at lines : ℕ} {asks : Question} (r : Reading card g at lines asks) where
+module _ {card : List ℕ} {g : Passes card} {at lines : ℕ} {asks : Result Peek BadLine} (r : Reading card g at lines asks) where
   -- at the end
   pub reading_ends : length card ≤ at → Asks card asks
   reading_ends h = go r.rest r.ahead r.whole
@@ -51,18 +53,18 @@ module _ {card : List ℕ} {g : Passes card} {at lines : ℕ} {asks : Question} 
           let (before, l, is, asked) = r.read (omega (arith, r.count, ap length all, lines_some g.1.lines g.1.whole)) in
           subst (Asks card) (sym (asked ∙ ap (asked_by l) (r.count ∙ sym (ap length all)))) (last g before l (all ∙ is))
 
-  module _ {next : Next} (some_left : at < length card) (found : Finds (Leads (take (length card - at) (drop at card))) (next_of next)) where
+  module _ (some_left : at < length card) where
     -- a line is there
-    pub never_missing : next ≡ Next.Bad → ⊥
-    never_missing e = go r.rest r.ahead
+    pub never_missing : Finds (Leads (take (length card - at) (drop at card))) None → ⊥
+    never_missing found = go r.rest r.ahead
       where
         go : (ls : List Line) → Ahead card at ls → ⊥
         go [] a = at_end a some_left
-        go (l ∷ ls) a = is_missing card at e (there card at next found) a
+        go (l ∷ ls) a = is_missing card at (at_place card at found) a
 
-    module _ {l : Line} {n : ℕ} (good : next ≡ Next.Good l n) where
+    module _ {l : Line} {n : ℕ} (found : Finds (Leads (take (length card - at) (drop at card))) (Some (l, n))) where
       pub further : (0 < n) × (at + n ≤ length card)
-      further = within card at good (there card at next found) r.ahead.inside
+      further = within card at (at_place card at found) r.ahead.inside
 
       pub reading_more : Reading card g (at + n) (lines + 1) (asked_by l (lines + 1))
       reading_more = go r.rest r.ahead r.whole
@@ -70,7 +72,7 @@ module _ {card : List ℕ} {g : Passes card} {at lines : ℕ} {asks : Question} 
           go : (ls : List Line) → Ahead card at ls → g.1.lines ≡ r.front ++ ls → Reading card g (at + n) (lines + 1) (asked_by l (lines + 1))
           go [] a e = absurd (at_end a some_left)
           go (x ∷ ls) a e =
-              let (same, further_ahead) = is_found card at good (there card at next found) a in
+              let (same, further_ahead) = is_found card at (at_place card at found) a in
               record {
                 front = r.front ++ (l ∷ []);
                 rest = ls;

@@ -57,6 +57,9 @@ module _ (s : List ℕ) (ok : Whole s) where
   pub path_none : path (view s).tree 0 ≡ []
   path_none = path_top (view s).tree proper 0 up_none
 
+  pub top_parent : (tells s 0).parent ≡ 0
+  top_parent = told_parent s 0 ∙ ap or_top up_none
+
   -- the parent of an environment below the top
   module _ (n : ℕ) (l : 1 ≤ n) (m : IsMade s n) where
     pub parent_is : (tells s n).parent ≡ parent_n (node_of s n)

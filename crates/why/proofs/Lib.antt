@@ -6,3 +6,4 @@ pub mod Peeking
 pub mod Ending
 pub mod Answering
 pub mod Asking
+pub mod Behind

@@ -1,4 +1,4 @@
--- The bits of v come back from `to_bits`; the machine reads v from its bits (`to_z-of_z`).
+-- The four bytes are those of the value's bits, the low byte first. Assumes nothing.
 use Rattle.std.proofs.lemmas.Int.{to_z-of_z}
 use Rattle.std.specs.Int.{w32}
 use Rattle.layout.specs.Records.{value_c}
@@ -6,4 +6,4 @@ use Rattle.layout.proofs.value_cell.Goals as goal
 
 pub returns : goal.returns
 unfolding value_c
-returns c = rw (c.to_bits-b.ensures, to_z-of_z w32 c.args.v c.ranges.v)
+returns c = rw (c.to_le_bytes.ensures, to_z-of_z w32 c.args.v c.ranges.v)

@@ -3,15 +3,9 @@ use mathlib.Core.Path.{ap}
 use native.Mathlib.Omega.{arith}
 use lib.ListN.{length}
 use Rattle.play.specs.Output.{refused}
-use Rattle.play.proofs.Texts.{ends_within, line_long, front}
+use Rattle.play.proofs.Texts.{line_long, front}
 use Rattle.play.proofs.Stepping.{bad_stands, handed_all}
 use Rattle.play.proofs.refuse.Goals as goal
-
-pub slice_bounds-text-end : goal.slice_bounds-text-end
-slice_bounds-text-end g c = ends_within c.put_bad-n.ensures.wrote
-
-pub slice_bounds-hand-end : goal.slice_bounds-hand-end
-slice_bounds-hand-end g c = line_long c.put_bad-n.ensures.wrote
 
 pub hand-requires : goal.hand-requires
 hand-requires g c = (bad_stands c.args.line c.requires (front c.put_bad-n.ensures.wrote), omega (arith, line_long c.put_bad-n.ensures.wrote, c.put_bad-n.ensures.upper_bound))

@@ -18,24 +18,21 @@ use Rattle.store.proofs.bind_at.Goals as goal
 pub cell-requires : goal.cell-requires
 cell-requires c = (sound_fit _ c.requires.0, c.requires.1.0)
 
-pub grow-requires : goal.grow-requires
-grow-requires c = let fit = sound_fit _ c.requires.0 in (c.requires.0, (c.requires.1.1, (omega (arith, c.requires.1.0, fit.v), omega arith)))
-
 pub set_cell-requires : goal.set_cell-requires
 set_cell-requires c =
     let s = c.args.s.now in
     let p = node_b 3 (focus s) c.args.x 0 c.bare_of-c.result (depth_under s) in
     let long = node_length 3 (focus s) c.args.x 0 c.bare_of-c.result (depth_under s) in
-    rw c.grow.ensures (grown_fit s c.requires.0 c.requires.1.1 p long, omega (arith, c.requires.1.0, grown_vars s c.requires.0 c.requires.1.1 p long))
+    rw c.grow-n.ensures.1 (grown_fit s c.requires.0 c.requires.1.1 p long, omega (arith, c.requires.1.0, grown_vars s c.requires.0 c.requires.1.1 p long))
 
 pub returns : goal.returns
 unfolding bind_b set_b
 returns c =
     let s = c.args.s.now in
     let x = c.args.x in
-    let bare = c.bare_of-c.ensures ∙ ap bare_c c.cell.ensures.0 in
-    let node = c.grow.ensures ∙ ap (λ (d : List ℕ). grow_b s (node_b 3 (focus s) x 0 d (depth_under s))) bare in
+    let bare = c.bare_of-c.ensures ∙ ap bare_c c.cell.ensures in
+    let node = c.grow-n.ensures.1 ∙ ap (λ (d : List ℕ). grow_b s (node_b 3 (focus s) x 0 d (depth_under s))) bare in
     let new = c.value_cell.ensures ∙ ap value_c (to_z-of_z w32 c.args.v c.ranges.v) in (
-      ap (λ (n : ℕ). Made (record { node = n; events = 0 })) c.next_of-n.ensures.0,
+      ap (λ (n : ℕ). Made (record { node = n; events = 0 })) c.grow-n.ensures.0,
       c.set_cell.ensures ∙ rw (node, new),
     )

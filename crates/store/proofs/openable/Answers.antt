@@ -1,21 +1,11 @@
 -- `openable` answers both ways: each test that fails refutes its clause; where none fails, all of them hold. Assumes nothing.
 use Prim.Native.Nat.{ℕ, ◌<◌}
-use mathlib.Core.Logic.{⊎_elim}
 use native.Mathlib.Omega.{arith}
 use borrow.Author.Tests.{ltb-false}
 use Rattle.layout.specs.Records.{ProperCell, top_c}
 use Rattle.layout.proofs.CheckLaws.{says_map}
 use Rattle.promises.specs.Promises.{Openable}
 use Rattle.store.proofs.openable.Goals as goal
-
-pub returns-then-v-lt1 : goal.returns-then-v-lt1
-returns-then-v-lt1 c = ⊎_elim (λ w h. omega (arith, h.fits.vars_low)) (λ w h. omega (arith, h.fits.vars_high)) c.then-v-lt1.either
-
-pub returns-then-n-lt1 : goal.returns-then-n-lt1
-returns-then-n-lt1 c = ⊎_elim (λ w h. omega (arith, h.fits.room_low)) (λ w h. omega (arith, h.fits.room_high)) c.then-n-lt1.either
-
-pub size_of-requires : goal.size_of-requires
-size_of-requires c = (omega (arith, ltb-false), omega (arith, ltb-false))
 
 pub tops_ok-requires : goal.tops_ok-requires
 tops_ok-requires c = (omega (arith, ltb-false), omega arith)

@@ -1,60 +1,31 @@
 -- `set` keeps its promise: the cell shows whether x has a value at the focus, and takes the new one. Assumes nothing.
-use mathlib.Core.Bool.{not}
+use mathlib.Core.Path.{◌≡◌, refl, ap, ◌∙◌}
 use mir.Syntax.{w32}
 use mir.ValLaws.{to_z-of_z}
-use mathlib.Core.Path.{◌≡◌, refl, ap, ◌∙◌}
-use Prim.Native.Nat.{◌<◌}
 use native.Mathlib.Omega.{arith}
-use Rattle.layout.specs.Records.{vars}
-use Rattle.layout.specs.Sound.{Whole, Sound}
-use Rattle.layout.proofs.SoundLaws.{sound_fit}
-use Rattle.layout.proofs.CheckLaws.{held, refuted}
 use Rattle.layout.specs.Records.{bare_c, cell_of}
-use Rattle.store.proofs.Keeps.{set_damaged, set_unknown, set_unbound, set_done_keeps}
+use Rattle.layout.proofs.SoundLaws.{sound_fit}
+use Rattle.store.proofs.Keeps.{handed_on, set_damaged, set_unknown, set_unbound, set_done_keeps}
 use Rattle.store.proofs.set.Goals as goal
 
-pub returns-then-not-sound : goal.returns-then-not-sound
-returns-then-not-sound c = set_damaged _ _ _ (refuted c.sound.result (ap not c.if-not-sound.true) c.sound.ensures)
+pub returns-in_err-sound : goal.returns-in_err-sound
+returns-in_err-sound c = let (e, applies) = c.in_err-sound.ensures in rw (handed_on c.from_residual.result c.from_residual.ensures e) (set_damaged _ _ _ applies)
 
-pub is_known-requires : goal.is_known-requires
-is_known-requires c =
-    let ok : Sound c.args.s.now = held c.sound.result (ap not c.if-not-sound.false) c.sound.ensures in
-    let whole : Whole c.args.s.now = ok.whole in
-    whole
-
-pub returns-then-not-is_known : goal.returns-then-not-is_known
-returns-then-not-is_known c =
-    let ok : Sound c.args.s.now = held c.sound.result (ap not c.if-not-sound.false) c.sound.ensures in
-    let no = refuted c.is_known.result (ap not c.if-not-is_known.true) c.is_known.ensures in set_unknown _ _ _ ok (omega arith)
+pub returns-in_err-y : goal.returns-in_err-y
+returns-in_err-y c = let (e, applies) = c.in_err-y.ensures in rw (handed_on c.from_residual-in_err-y.result c.from_residual-in_err-y.ensures e) (set_unknown _ _ _ c.in_ok-sound.ensures applies)
 
 pub cell-requires : goal.cell-requires
-cell-requires c =
-    let ok : Sound c.args.s.now = held c.sound.result (ap not c.if-not-sound.false) c.sound.ensures in
-    let whole : Whole c.args.s.now = ok.whole in
-    let known : c.args.x < vars c.args.s.now = held c.is_known.result (ap not c.if-not-is_known.false) c.is_known.ensures in
-    (sound_fit _ whole, known)
+cell-requires c = (sound_fit _ c.in_ok-sound.ensures.whole, omega (arith, c.in_ok-y.ensures.0, c.in_ok-y.ensures.1))
 
-pub bounds-c-0 : goal.bounds-c-0
-bounds-c-0 c = omega arith
-
-pub returns-then-c-eq0 : goal.returns-then-c-eq0
-returns-then-c-eq0 c =
-    let ok : Sound c.args.s.now = held c.sound.result (ap not c.if-not-sound.false) c.sound.ensures in
-    let known : c.args.x < vars c.args.s.now = held c.is_known.result (ap not c.if-not-is_known.false) c.is_known.ensures in
-    let shown : c.bare_of-c.result ≡ bare_c (cell_of c.args.s.now c.args.x) = c.bare_of-c.ensures ∙ ap bare_c c.cell.ensures.0 in
-    set_unbound _ _ _ ok known (rw (← shown) c.if-c-eq0.true)
-
-pub set_at-requires : goal.set_at-requires
-set_at-requires c =
-    let ok : Sound c.args.s.now = held c.sound.result (ap not c.if-not-sound.false) c.sound.ensures in
-    let whole : Whole c.args.s.now = ok.whole in
-    let known : c.args.x < vars c.args.s.now = held c.is_known.result (ap not c.if-not-is_known.false) c.is_known.ensures in
-    (whole, known)
+pub returns-in_err-value : goal.returns-in_err-value
+returns-in_err-value c =
+    let (e, applies) = c.in_err-value.ensures in
+    let shown : c.bare_of.result ≡ bare_c (cell_of c.args.s.now c.args.x) = c.bare_of.ensures ∙ ap bare_c (c.cell.ensures ∙ ap (cell_of c.args.s.now) c.in_ok-y.ensures.0) in
+    rw (handed_on c.from_residual-in_err-value.result c.from_residual-in_err-value.ensures e) (set_unbound _ _ _ c.in_ok-sound.ensures c.in_ok-y.ensures.1 (rw shown at applies))
 
 pub returns : goal.returns
 returns c =
-    let ok : Sound c.args.s.now = held c.sound.result (ap not c.if-not-sound.false) c.sound.ensures in
-    let known : c.args.x < vars c.args.s.now = held c.is_known.result (ap not c.if-not-is_known.false) c.is_known.ensures in
-    let shown : c.bare_of-c.result ≡ bare_c (cell_of c.args.s.now c.args.x) = c.bare_of-c.ensures ∙ ap bare_c c.cell.ensures.0 in
+    let (x-is, known) = c.in_ok-y.ensures in
+    let shown : c.bare_of.result ≡ bare_c (cell_of c.args.s.now c.args.x) = c.bare_of.ensures ∙ ap bare_c (c.cell.ensures ∙ ap (cell_of c.args.s.now) x-is) in
     let e = c.set_at.ensures in
-    rw (e.0, e.1, to_z-of_z w32 c.args.v c.ranges.v) (set_done_keeps _ _ _ ok known (λ z. c.if-c-eq0.false (rw shown z)) c.ranges.v _ refl)
+    rw (e.0, e.1, x-is, to_z-of_z w32 c.args.v c.ranges.v) (set_done_keeps _ _ _ c.in_ok-sound.ensures known (rw shown at c.in_ok-value.ensures) c.ranges.v _ refl)

@@ -20,6 +20,6 @@ returns c =
     let s = c.args.s.now in
     let x = c.args.x in
     let same = to_z-of_z w32 c.args.v c.ranges.v in (
-      ap Number c.focus_of-f.ensures.0,
+      ap Number c.focus_of-f.ensures,
       c.set_cell.ensures ∙ ap (λ (d : List ℕ). with_cell s x (put_c (cell_of s x) d)) (c.value_cell.ensures ∙ ap value_c same),
     )

@@ -1,60 +1,26 @@
 -- `wind` keeps its promise: refused row by row, else the bytes are those of a new wind and its event. Assumes nothing.
-use mathlib.Core.Bool.{not}
-use mathlib.Core.Path.{ap}
 use native.Mathlib.Omega.{arith}
-use Rattle.layout.specs.Records.{target}
-use mathlib.Core.Path.{◌≡◌}
-use Rattle.layout.specs.Limits.{none_n}
-use Rattle.layout.specs.Sound.{Sound}
-use Rattle.layout.specs.Made.{IsFull}
-use Rattle.layout.proofs.CheckLaws.{held, refuted, says_yes, says_no}
 use Rattle.promises.specs.Promises.{room_for}
-use Rattle.store.proofs.Keeps.{wind_damaged, wind_walking, wind_full, wind_no_room, wind_done}
+use Rattle.store.proofs.Keeps.{handed_on, wind_damaged, wind_walking, wind_full, wind_no_room, wind_done}
 use Rattle.store.proofs.wind.Goals as goal
 
-pub returns-then-not-sound : goal.returns-then-not-sound
-returns-then-not-sound c = wind_damaged _ _ _ _ (refuted c.sound.result (ap not c.if-not-sound.true) c.sound.ensures)
+pub returns-in_err-sound : goal.returns-in_err-sound
+returns-in_err-sound c = let (e, applies) = c.in_err-sound.ensures in rw (handed_on c.from_residual.result c.from_residual.ensures e) (wind_damaged _ _ _ _ applies)
 
-pub at_rest-requires : goal.at_rest-requires
-at_rest-requires c =
-    let ok : Sound c.args.s.now = held c.sound.result (ap not c.if-not-sound.false) c.sound.ensures in
-    ok.whole
+pub returns-in_err-rest : goal.returns-in_err-rest
+returns-in_err-rest c = let (e, applies) = c.in_err-rest.ensures in rw (handed_on c.from_residual-in_err-rest.result c.from_residual-in_err-rest.ensures e) (wind_walking _ _ _ _ c.in_ok-sound.ensures applies)
 
-pub returns-then-not-at_rest : goal.returns-then-not-at_rest
-returns-then-not-at_rest c =
-    let ok : Sound c.args.s.now = held c.sound.result (ap not c.if-not-sound.false) c.sound.ensures in
-    wind_walking _ _ _ _ ok (refuted c.at_rest.result (ap not c.if-not-at_rest.true) c.at_rest.ensures)
+pub returns-in_err-space : goal.returns-in_err-space
+returns-in_err-space c = let (e, applies) = c.in_err-space.ensures in rw (handed_on c.from_residual-in_err-space.result c.from_residual-in_err-space.ensures e) (wind_full _ _ _ _ c.in_ok-sound.ensures c.in_ok-rest.ensures applies)
 
-pub is_full-requires : goal.is_full-requires
-is_full-requires c =
-    let ok : Sound c.args.s.now = held c.sound.result (ap not c.if-not-sound.false) c.sound.ensures in
-    ok.whole
+pub returns-in_err-room : goal.returns-in_err-room
+returns-in_err-room c = let (e, applies) = c.in_err-room.ensures in rw (handed_on c.from_residual-in_err-room.result c.from_residual-in_err-room.ensures e) (wind_no_room _ _ _ _ c.in_ok-sound.ensures c.in_ok-rest.ensures c.in_ok-space.ensures applies)
 
-pub returns-then-is_full : goal.returns-then-is_full
-returns-then-is_full c =
-    let ok : Sound c.args.s.now = held c.sound.result (ap not c.if-not-sound.false) c.sound.ensures in
-    let out : target c.args.s.now ≡ none_n = held c.at_rest.result (ap not c.if-not-at_rest.false) c.at_rest.ensures in
-    wind_full _ _ _ _ ok out (says_yes c.is_full.result c.if-is_full.true c.is_full.ensures)
-
-pub returns-then-t-lt1 : goal.returns-then-t-lt1
+pub wind_at-requires-clause-event_size_in_bounds : goal.wind_at-requires-clause-event_size_in_bounds
 unfolding room_for
-returns-then-t-lt1 c =
-    let ok : Sound c.args.s.now = held c.sound.result (ap not c.if-not-sound.false) c.sound.ensures in
-    let out : target c.args.s.now ≡ none_n = held c.at_rest.result (ap not c.if-not-at_rest.false) c.at_rest.ensures in
-    let space : IsFull c.args.s.now → ⊥ = says_no c.is_full.result c.if-is_full.false c.is_full.ensures in
-    wind_no_room _ _ _ _ ok out space c.if-t-lt1.true
-
-pub wind_at-requires : goal.wind_at-requires
-wind_at-requires c =
-    let ok : Sound c.args.s.now = held c.sound.result (ap not c.if-not-sound.false) c.sound.ensures in
-    let space : IsFull c.args.s.now → ⊥ = says_no c.is_full.result c.if-is_full.false c.is_full.ensures in
-    record { whole = (ok.whole, space); event_size_in_bounds = (omega arith, (c.ranges.p.fits, c.ranges.q.fits)) }
+wind_at-requires-clause-event_size_in_bounds c = omega (arith, c.in_ok-room.ensures)
 
 pub returns : goal.returns
-unfolding room_for
 returns c =
-    let ok : Sound c.args.s.now = held c.sound.result (ap not c.if-not-sound.false) c.sound.ensures in
-    let out : target c.args.s.now ≡ none_n = held c.at_rest.result (ap not c.if-not-at_rest.false) c.at_rest.ensures in
-    let space : IsFull c.args.s.now → ⊥ = says_no c.is_full.result c.if-is_full.false c.is_full.ensures in
     let e = c.wind_at.ensures in
-    rw (e.value, e.s_after.0, e.s_after.1) (wind_done _ _ _ _ ok out space c.if-t-lt1.false)
+    rw (e.value, e.s_after.0, e.s_after.1) (wind_done _ _ _ _ c.in_ok-sound.ensures c.in_ok-rest.ensures c.in_ok-space.ensures c.in_ok-room.ensures)

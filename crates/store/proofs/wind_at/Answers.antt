@@ -15,10 +15,10 @@ pub returns : goal.returns
 unfolding wind_b
 returns c =
     let s = c.args.s.now in record {
-      value = ap (λ (n : ℕ). Made (record { node = n; events = 1 })) c.next_of-n.ensures.0;
+      value = ap (λ (n : ℕ). Made (record { node = n; events = 1 })) c.grow-n.ensures.0;
       s_after = (
-        c.grow.ensures,
-        c.note.ensures ∙ ap (λ (f : ℕ). splice c.args.t.now (event_size * 0) event_size (event_d 1 c.args.p f)) c.focus_of.ensures.0
+        c.grow-n.ensures.1,
+        c.note.ensures ∙ ap (λ (f : ℕ). splice c.args.t.now (event_size * 0) event_size (event_d 1 c.args.p f)) c.focus_of.ensures
             ∙ sym (told_first (entering s c.args.p) c.args.t.now ∙ told_entered 0 c.args.p (focus s) c.args.t.now),
       );
     }

@@ -2,15 +2,9 @@
 use mathlib.Core.Path.{refl, sym, subst}
 use mathlib.Core.List.{[]}
 use native.Mathlib.Omega.{arith}
-use Rattle.play.proofs.Texts.{ends_within, line_long, front}
+use Rattle.play.proofs.Texts.{line_long, front}
 use Rattle.why.specs.Saying.{Says, nothing}
 use Rattle.why.proofs.refuse.Goals as goal
-
-pub slice_bounds-text-end : goal.slice_bounds-text-end
-slice_bounds-text-end g c = ends_within c.put_bad-n.ensures.wrote
-
-pub slice_bounds-hand-end : goal.slice_bounds-hand-end
-slice_bounds-hand-end g c = line_long c.put_bad-n.ensures.wrote
 
 pub hand-requires : goal.hand-requires
 hand-requires g c =

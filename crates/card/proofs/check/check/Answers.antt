@@ -27,38 +27,38 @@ returns-in_default c =
     checked _ (search rules)
     (c.loop-at.invariant.2 _
     (none_follows (some_left c.args.card.now c.loop-at.at c.loop-at-test.true)
-    (at_place c.args.card.now c.loop-at.at c.next_line.ensures c.in_default.is)))
+    (at_place c.args.card.now c.loop-at.at c.in_default.ensures)))
 
 pub returns-then-not-may_stand : goal.returns-then-not-may_stand
 returns-then-not-may_stand c =
     checked _ (search rules)
     (c.loop-at.invariant.2 _
     (other_follows (some_left c.args.card.now c.loop-at.at c.loop-at-test.true)
-    (at_place c.args.card.now c.loop-at.at c.next_line.ensures c.in-Good.is)
+    (at_place c.args.card.now c.loop-at.at c.in-Some.ensures)
     (c.may_stand.ensures.fails (not-true _ (ap not c.if-not-may_stand.true)))))
 
 pub ops_from-ops-requires : goal.ops_from-ops-requires
-ops_from-ops-requires c = (got (at_place c.args.card.now c.loop-at.at c.next_line.ensures c.in-Good.is) refl).range
+ops_from-ops-requires c = (got (at_place c.args.card.now c.loop-at.at c.in-Some.ensures) refl).range
 
 pub overflow_add-at : goal.overflow_add-at
 overflow_add-at c =
-    let m = further c.args.card.now c.loop-at.at (search rules) (at_place c.args.card.now c.loop-at.at c.next_line.ensures c.in-Good.is) in
+    let m = further c.args.card.now c.loop-at.at (search rules) (at_place c.args.card.now c.loop-at.at c.in-Some.ensures) in
     record { fits = omega (arith, m.1) }
 
 pub loop-at-smaller : goal.loop-at-smaller
 loop-at-smaller c =
-    let m = further c.args.card.now c.loop-at.at (search rules) (at_place c.args.card.now c.loop-at.at c.next_line.ensures c.in-Good.is) in
+    let m = further c.args.card.now c.loop-at.at (search rules) (at_place c.args.card.now c.loop-at.at c.in-Some.ensures) in
     omega (arith, m.0, m.1)
 
 pub loop-at-preserved : goal.loop-at-preserved
 loop-at-preserved c =
-    let f = at_place c.args.card.now c.loop-at.at c.next_line.ensures c.in-Good.is in
+    let f = at_place c.args.card.now c.loop-at.at c.in-Some.ensures in
     let m = further c.args.card.now c.loop-at.at (search rules) f in (
       m.1,
       omega (arith, m.0),
       λ r j. c.loop-at.invariant.2 r
           (follows f (c.may_stand.ensures.holds (not-false _ (ap not c.if-not-may_stand.false)))
-          (rw (← c.ops_from-ops.ensures, drop-drop c.in-Good.n c.loop-at.at c.args.card.now) j)),
+          (rw (← c.ops_from-ops.ensures, drop-drop c.in-Some.n c.loop-at.at c.args.card.now) j)),
     )
 
 pub returns-then-lines-ops : goal.returns-then-lines-ops

@@ -1,17 +1,9 @@
 -- `card::tops::bare` meets its contract. Assumes nothing.
-use mathlib.Core.Path.{sym, ap, ◌∙◌}
-use mir.Syntax.{w32}
-use mir.ValLaws.{to_z-of_z}
+use Rattle.std.proofs.Common.{arith}
+use Rattle.std.proofs.lemmas.Grind.{common_steps}
 use Rattle.card.specs.Tops.{cell_b}
-use borrow.Author.Rules.{rules}
 use Rattle.card.proofs.tops.bare.Goals as goal
 
-pub returns-in-Value : goal.returns-in-Value
+pub returns : goal.returns
 unfolding cell_b
-returns-in-Value c =
-    let v = c.in-Value.v in
-    c.value_cell.ensures ∙ rw (to_z-of_z w32 v (search rules)) (ap cell_b (sym c.in-Value.is))
-
-pub returns-in-Unbound : goal.returns-in-Unbound
-unfolding cell_b
-returns-in-Unbound c = ap cell_b (sym c.in-Unbound.is)
+returns c = grind (arith, common_steps)

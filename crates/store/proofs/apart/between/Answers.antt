@@ -18,15 +18,15 @@ depth_of-db-requires c = let (ok, (made, made')) = c.requires in (sound_fit _ ok
 
 pub returns-then-da-eq0 : goal.returns-then-da-eq0
 returns-then-da-eq0 c =
-    let deep : c.depth_of-da.result ≡ depth_at c.args.s.now c.args.a = let (ok, (made, made')) = c.requires in c.depth_of-da.ensures.0 ∙ depth_is _ ok _ made in
-    let deep' : c.depth_of-db.result ≡ depth_at c.args.s.now c.args.b = let (ok, (made, made')) = c.requires in c.depth_of-db.ensures.0 ∙ depth_is _ ok _ made' in
+    let deep : c.depth_of-da.result ≡ depth_at c.args.s.now c.args.a = let (ok, (made, made')) = c.requires in c.depth_of-da.ensures ∙ depth_is _ ok _ made in
+    let deep' : c.depth_of-db.result ≡ depth_at c.args.s.now c.args.b = let (ok, (made, made')) = c.requires in c.depth_of-db.ensures ∙ depth_is _ ok _ made' in
     let (ok, (made, made')) = c.requires in
     deep' ∙ sym (from_top _ ok _ _ made (sym deep ∙ c.if-da-eq0.true))
 
 pub returns-then-db-eq0 : goal.returns-then-db-eq0
 returns-then-db-eq0 c =
-    let deep : c.depth_of-da.result ≡ depth_at c.args.s.now c.args.a = let (ok, (made, made')) = c.requires in c.depth_of-da.ensures.0 ∙ depth_is _ ok _ made in
-    let deep' : c.depth_of-db.result ≡ depth_at c.args.s.now c.args.b = let (ok, (made, made')) = c.requires in c.depth_of-db.ensures.0 ∙ depth_is _ ok _ made' in
+    let deep : c.depth_of-da.result ≡ depth_at c.args.s.now c.args.a = let (ok, (made, made')) = c.requires in c.depth_of-da.ensures ∙ depth_is _ ok _ made in
+    let deep' : c.depth_of-db.result ≡ depth_at c.args.s.now c.args.b = let (ok, (made, made')) = c.requires in c.depth_of-db.ensures ∙ depth_is _ ok _ made' in
     let (ok, (made, made')) = c.requires in
     deep ∙ sym (to_top _ ok _ _ made' (sym deep' ∙ c.if-db-eq0.true))
 
@@ -36,14 +36,14 @@ overflow_sub-result c = omega arith
 -- b is deeper, and is lifted
 pub lift-requires : goal.lift-requires
 lift-requires c =
-    let deep : c.depth_of-da.result ≡ depth_at c.args.s.now c.args.a = let (ok, (made, made')) = c.requires in c.depth_of-da.ensures.0 ∙ depth_is _ ok _ made in
-    let deep' : c.depth_of-db.result ≡ depth_at c.args.s.now c.args.b = let (ok, (made, made')) = c.requires in c.depth_of-db.ensures.0 ∙ depth_is _ ok _ made' in
+    let deep : c.depth_of-da.result ≡ depth_at c.args.s.now c.args.a = let (ok, (made, made')) = c.requires in c.depth_of-da.ensures ∙ depth_is _ ok _ made in
+    let deep' : c.depth_of-db.result ≡ depth_at c.args.s.now c.args.b = let (ok, (made, made')) = c.requires in c.depth_of-db.ensures ∙ depth_is _ ok _ made' in
     let (ok, (made, made')) = c.requires in
     (ok, (made', omega (arith, deep, deep')))
 
 pub passed-requires : goal.passed-requires
 passed-requires c =
-    let deep : c.depth_of-da.result ≡ depth_at c.args.s.now c.args.a = let (ok, (made, made')) = c.requires in c.depth_of-da.ensures.0 ∙ depth_is _ ok _ made in
+    let deep : c.depth_of-da.result ≡ depth_at c.args.s.now c.args.a = let (ok, (made, made')) = c.requires in c.depth_of-da.ensures ∙ depth_is _ ok _ made in
     let lifted : Lifted c.args.s.now c.args.b (depth_at c.args.s.now c.args.a) c.lift.result =
     let args = c.args in
     subst (λ (d : ℕ). Lifted args.s.now args.b d c.lift.result) deep c.lift.ensures in
@@ -52,8 +52,8 @@ passed-requires c =
 
 pub overflow_add-result : goal.overflow_add-result
 overflow_add-result c =
-    let deep : c.depth_of-da.result ≡ depth_at c.args.s.now c.args.a = let (ok, (made, made')) = c.requires in c.depth_of-da.ensures.0 ∙ depth_is _ ok _ made in
-    let deep' : c.depth_of-db.result ≡ depth_at c.args.s.now c.args.b = let (ok, (made, made')) = c.requires in c.depth_of-db.ensures.0 ∙ depth_is _ ok _ made' in
+    let deep : c.depth_of-da.result ≡ depth_at c.args.s.now c.args.a = let (ok, (made, made')) = c.requires in c.depth_of-da.ensures ∙ depth_is _ ok _ made in
+    let deep' : c.depth_of-db.result ≡ depth_at c.args.s.now c.args.b = let (ok, (made, made')) = c.requires in c.depth_of-db.ensures ∙ depth_is _ ok _ made' in
     let lifted : Lifted c.args.s.now c.args.b (depth_at c.args.s.now c.args.a) c.lift.result =
     let args = c.args in
     subst (λ (d : ℕ). Lifted args.s.now args.b d c.lift.result) deep c.lift.ensures in
@@ -69,14 +69,14 @@ overflow_add-result c =
 -- a is at least as deep, and is lifted
 pub lift-requires-else-da-db : goal.lift-requires-else-da-db
 lift-requires-else-da-db c =
-    let deep : c.depth_of-da.result ≡ depth_at c.args.s.now c.args.a = let (ok, (made, made')) = c.requires in c.depth_of-da.ensures.0 ∙ depth_is _ ok _ made in
-    let deep' : c.depth_of-db.result ≡ depth_at c.args.s.now c.args.b = let (ok, (made, made')) = c.requires in c.depth_of-db.ensures.0 ∙ depth_is _ ok _ made' in
+    let deep : c.depth_of-da.result ≡ depth_at c.args.s.now c.args.a = let (ok, (made, made')) = c.requires in c.depth_of-da.ensures ∙ depth_is _ ok _ made in
+    let deep' : c.depth_of-db.result ≡ depth_at c.args.s.now c.args.b = let (ok, (made, made')) = c.requires in c.depth_of-db.ensures ∙ depth_is _ ok _ made' in
     let (ok, (made, made')) = c.requires in
     (ok, (made, omega (arith, deep, deep')))
 
 pub passed-requires-else-da-db : goal.passed-requires-else-da-db
 passed-requires-else-da-db c =
-    let deep' : c.depth_of-db.result ≡ depth_at c.args.s.now c.args.b = let (ok, (made, made')) = c.requires in c.depth_of-db.ensures.0 ∙ depth_is _ ok _ made' in
+    let deep' : c.depth_of-db.result ≡ depth_at c.args.s.now c.args.b = let (ok, (made, made')) = c.requires in c.depth_of-db.ensures ∙ depth_is _ ok _ made' in
     let lifted' : Lifted c.args.s.now c.args.a (depth_at c.args.s.now c.args.b) c.lift-else-da-db.result =
     let args = c.args in
     subst (λ (d : ℕ). Lifted args.s.now args.a d c.lift-else-da-db.result) deep' c.lift-else-da-db.ensures in
@@ -85,8 +85,8 @@ passed-requires-else-da-db c =
 
 pub returns-then-da-db : goal.returns-then-da-db
 returns-then-da-db c =
-    let deep : c.depth_of-da.result ≡ depth_at c.args.s.now c.args.a = let (ok, (made, made')) = c.requires in c.depth_of-da.ensures.0 ∙ depth_is _ ok _ made in
-    let deep' : c.depth_of-db.result ≡ depth_at c.args.s.now c.args.b = let (ok, (made, made')) = c.requires in c.depth_of-db.ensures.0 ∙ depth_is _ ok _ made' in
+    let deep : c.depth_of-da.result ≡ depth_at c.args.s.now c.args.a = let (ok, (made, made')) = c.requires in c.depth_of-da.ensures ∙ depth_is _ ok _ made in
+    let deep' : c.depth_of-db.result ≡ depth_at c.args.s.now c.args.b = let (ok, (made, made')) = c.requires in c.depth_of-db.ensures ∙ depth_is _ ok _ made' in
     let lifted : Lifted c.args.s.now c.args.b (depth_at c.args.s.now c.args.a) c.lift.result =
     let args = c.args in
     subst (λ (d : ℕ). Lifted args.s.now args.b d c.lift.result) deep c.lift.ensures in
@@ -101,8 +101,8 @@ returns-then-da-db c =
 
 pub returns-else-da-db : goal.returns-else-da-db
 returns-else-da-db c =
-    let deep : c.depth_of-da.result ≡ depth_at c.args.s.now c.args.a = let (ok, (made, made')) = c.requires in c.depth_of-da.ensures.0 ∙ depth_is _ ok _ made in
-    let deep' : c.depth_of-db.result ≡ depth_at c.args.s.now c.args.b = let (ok, (made, made')) = c.requires in c.depth_of-db.ensures.0 ∙ depth_is _ ok _ made' in
+    let deep : c.depth_of-da.result ≡ depth_at c.args.s.now c.args.a = let (ok, (made, made')) = c.requires in c.depth_of-da.ensures ∙ depth_is _ ok _ made in
+    let deep' : c.depth_of-db.result ≡ depth_at c.args.s.now c.args.b = let (ok, (made, made')) = c.requires in c.depth_of-db.ensures ∙ depth_is _ ok _ made' in
     let lifted' : Lifted c.args.s.now c.args.a (depth_at c.args.s.now c.args.b) c.lift-else-da-db.result =
     let args = c.args in
     subst (λ (d : ℕ). Lifted args.s.now args.a d c.lift-else-da-db.result) deep' c.lift-else-da-db.ensures in
@@ -115,8 +115,8 @@ returns-else-da-db c =
 
 pub overflow_add-result-else-da-db : goal.overflow_add-result-else-da-db
 overflow_add-result-else-da-db c =
-    let deep : c.depth_of-da.result ≡ depth_at c.args.s.now c.args.a = let (ok, (made, made')) = c.requires in c.depth_of-da.ensures.0 ∙ depth_is _ ok _ made in
-    let deep' : c.depth_of-db.result ≡ depth_at c.args.s.now c.args.b = let (ok, (made, made')) = c.requires in c.depth_of-db.ensures.0 ∙ depth_is _ ok _ made' in
+    let deep : c.depth_of-da.result ≡ depth_at c.args.s.now c.args.a = let (ok, (made, made')) = c.requires in c.depth_of-da.ensures ∙ depth_is _ ok _ made in
+    let deep' : c.depth_of-db.result ≡ depth_at c.args.s.now c.args.b = let (ok, (made, made')) = c.requires in c.depth_of-db.ensures ∙ depth_is _ ok _ made' in
     let lifted' : Lifted c.args.s.now c.args.a (depth_at c.args.s.now c.args.b) c.lift-else-da-db.result =
     let args = c.args in
     subst (λ (d : ℕ). Lifted args.s.now args.a d c.lift-else-da-db.result) deep' c.lift-else-da-db.ensures in

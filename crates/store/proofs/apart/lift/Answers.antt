@@ -22,29 +22,29 @@ parent_of-at-requires c =
 
 pub loop-at-smaller : goal.loop-at-smaller
 loop-at-smaller c =
-    let tested : c.depth_of.result ≡ depth_at c.args.s.now c.loop-at.at = c.depth_of.ensures.0 ∙ depth_is _ c.requires.0 _ c.loop-at.invariant.0.made in
+    let tested : c.depth_of.result ≡ depth_at c.args.s.now c.loop-at.at = c.depth_of.ensures ∙ depth_is _ c.requires.0 _ c.loop-at.invariant.0.made in
     let above : let s = c.args.s.now in let p = c.parent_of-at.result in Lifted s c.args.a (depth_at s p) p × ((c.args.d ≤ depth_at s p) × (depth_at s p < depth_at s c.loop-at.at)) =
     let s = c.args.s.now in
     let (ok, rest) = c.requires in
     let deep = tested in
     let (l, below) = lifted_up s ok c.args.a c.args.d c.loop-at.at c.loop-at.invariant.0 (omega arith) in
-    rw c.parent_of-at.ensures.0 (l, (omega arith, omega arith)) in
+    rw c.parent_of-at.ensures (l, (omega arith, omega arith)) in
     above.1.1
 
 pub loop-at-preserved : goal.loop-at-preserved
 loop-at-preserved c =
-    let tested : c.depth_of.result ≡ depth_at c.args.s.now c.loop-at.at = c.depth_of.ensures.0 ∙ depth_is _ c.requires.0 _ c.loop-at.invariant.0.made in
+    let tested : c.depth_of.result ≡ depth_at c.args.s.now c.loop-at.at = c.depth_of.ensures ∙ depth_is _ c.requires.0 _ c.loop-at.invariant.0.made in
     let above : let s = c.args.s.now in let p = c.parent_of-at.result in Lifted s c.args.a (depth_at s p) p × ((c.args.d ≤ depth_at s p) × (depth_at s p < depth_at s c.loop-at.at)) =
     let s = c.args.s.now in
     let (ok, rest) = c.requires in
     let deep = tested in
     let (l, below) = lifted_up s ok c.args.a c.args.d c.loop-at.at c.loop-at.invariant.0 (omega arith) in
-    rw c.parent_of-at.ensures.0 (l, (omega arith, omega arith)) in
+    rw c.parent_of-at.ensures (l, (omega arith, omega arith)) in
     (above.0, above.1.0)
 
 pub returns : goal.returns
 returns c =
-    let tested : c.depth_of.result ≡ depth_at c.args.s.now c.loop-at.at = c.depth_of.ensures.0 ∙ depth_is _ c.requires.0 _ c.loop-at.invariant.0.made in
+    let tested : c.depth_of.result ≡ depth_at c.args.s.now c.loop-at.at = c.depth_of.ensures ∙ depth_is _ c.requires.0 _ c.loop-at.invariant.0.made in
     let s = c.args.s.now in
     let deep = tested in
     let e : depth_at s c.loop-at.at ≡ c.args.d = omega arith in

@@ -25,21 +25,21 @@ parent_of-to-requires c =
 pub overflow_add-n : goal.overflow_add-n
 overflow_add-n c =
     let above : let s = c.args.s.now in let p = c.parent_of-at.result in let q = c.parent_of-to.result in Nearing s c.args.a c.args.b p q (c.loop-at.n + 2) × (moves_from s p q < moves_from s c.loop-at.at c.loop-at.to) =
-    rw (c.parent_of-at.ensures.0, c.parent_of-to.ensures.0)
+    rw (c.parent_of-at.ensures, c.parent_of-to.ensures)
     (nearing_up c.args.s.now c.requires.whole.0 c.args.a c.args.b c.loop-at.at c.loop-at.to c.loop-at.n c.loop-at.invariant c.loop-at-test.true) in
     omega (arith, above.0.left, few_between _ c.requires.whole.0 c.args.a c.args.b)
 
 pub loop-at-smaller : goal.loop-at-smaller
 loop-at-smaller c =
     let above : let s = c.args.s.now in let p = c.parent_of-at.result in let q = c.parent_of-to.result in Nearing s c.args.a c.args.b p q (c.loop-at.n + 2) × (moves_from s p q < moves_from s c.loop-at.at c.loop-at.to) =
-    rw (c.parent_of-at.ensures.0, c.parent_of-to.ensures.0)
+    rw (c.parent_of-at.ensures, c.parent_of-to.ensures)
     (nearing_up c.args.s.now c.requires.whole.0 c.args.a c.args.b c.loop-at.at c.loop-at.to c.loop-at.n c.loop-at.invariant c.loop-at-test.true) in
     above.1
 
 pub loop-at-preserved : goal.loop-at-preserved
 loop-at-preserved c =
     let above : let s = c.args.s.now in let p = c.parent_of-at.result in let q = c.parent_of-to.result in Nearing s c.args.a c.args.b p q (c.loop-at.n + 2) × (moves_from s p q < moves_from s c.loop-at.at c.loop-at.to) =
-    rw (c.parent_of-at.ensures.0, c.parent_of-to.ensures.0)
+    rw (c.parent_of-at.ensures, c.parent_of-to.ensures)
     (nearing_up c.args.s.now c.requires.whole.0 c.args.a c.args.b c.loop-at.at c.loop-at.to c.loop-at.n c.loop-at.invariant c.loop-at-test.true) in
     above.0
 

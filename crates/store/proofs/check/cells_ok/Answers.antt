@@ -1,42 +1,19 @@
--- Of every cell passed it is known that it is proper; the first that is not refutes the clause.
-use mathlib.Core.Bool.{not}
-use mathlib.Core.Path.{sym, ap, subst, ◌∙◌}
-use mathlib.Core.List.{List}
-use Prim.Native.Nat.{ℕ}
-use native.Mathlib.Omega.{arith}
+-- Every cell is asked by its number.
+use Rattle.std.proofs.Common.{ℕ, ◌<◌, arith, rules}
+use Rattle.std.proofs.lemmas.Iterator.{cases_from_all, YieldsList-from_range}
+use Rattle.layout.specs.Records.{vars, ProperCell, bare_c, cell_of}
+use Rattle.layout.specs.Fields.{fields_of}
 use Rattle.layout.specs.Sound.{Says}
-use Rattle.layout.specs.Records.{ProperCell, bare_c}
-use Rattle.layout.specs.Fields.{fields_of, cells}
-use Rattle.layout.proofs.SoundLaws.{headed_fit}
 use Rattle.layout.proofs.Laws.{cell_in}
-use Rattle.layout.proofs.CheckLaws.{held, refuted, below_more}
+use Rattle.layout.proofs.CheckLaws.{says_map}
+use Rattle.store.proofs.Ranges.{says_all}
 use Rattle.store.proofs.check.cells_ok.Goals as goal
-
-pub loop-x-init : goal.loop-x-init
-loop-x-init c = (omega arith, λ k h. absurd (omega arith))
-
-pub cell-requires : goal.cell-requires
-cell-requires c = (headed_fit _ c.requires, omega arith)
-
-pub returns-then-not-proper : goal.returns-then-not-proper
-unfolding fields_of
-returns-then-not-proper c =
-    let tested : Says c.proper.result (ProperCell (bare_c (cells c.args.s.now c.loop-x.x))) =
-    let e = c.bare_of.ensures ∙ ap bare_c (c.cell.ensures.0 ∙ sym (cell_in _ _ (omega arith))) in
-    subst (λ (d : List ℕ). Says c.proper.result (ProperCell d)) e c.proper.ensures in
-    λ ok. refuted c.proper.result (ap not c.if-not-proper.true) tested (ok c.loop-x.x (omega arith))
-
-pub overflow_add-x : goal.overflow_add-x
-overflow_add-x c = omega arith
-
-pub loop-x-preserved : goal.loop-x-preserved
-loop-x-preserved c =
-    let tested : Says c.proper.result (ProperCell (bare_c (cells c.args.s.now c.loop-x.x))) =
-    let e = c.bare_of.ensures ∙ ap bare_c (c.cell.ensures.0 ∙ sym (cell_in _ _ (omega arith))) in
-    subst (λ (d : List ℕ). Says c.proper.result (ProperCell d)) e c.proper.ensures in
-    let s = c.args.s.now in
-    (omega arith, below_more (λ (k : ℕ). ProperCell (bare_c (cells s k))) c.loop-x.x c.loop-x.invariant.1 (held c.proper.result (ap not c.if-not-proper.false) tested))
 
 pub returns : goal.returns
 unfolding fields_of
-returns c = λ k h. c.loop-x.invariant.1 k (omega arith)
+returns c =
+    let s = c.args.s.now in
+    let v = c.vars_of.result in
+    let P : ℕ → Type 0 = λ x. ProperCell (bare_c (cell_of s x)) in
+    let told : Says c.all.result ((x : ℕ) → x < v → P x) = says_all P v c.all.result (cases_from_all _ _ _ P (λ x. P x → ⊥) c.all.ensures.ran (YieldsList-from_range 0 v v (cc) (omega arith)) (λ x q k. search rules) (λ x q k. search rules)) in
+    says_map c.all.result (λ all x l. rw (cell_in s x (omega arith)) (all x (omega arith))) (λ all x l. let known : x < vars s = omega arith in rw (cell_in s x known) at (all x known)) told

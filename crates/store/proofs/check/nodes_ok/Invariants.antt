@@ -1,7 +1,5 @@
--- Of every node passed it is known that it is as it should be, and how many of them are in; the first that is not as it should be
--- refutes the clause.
-use mathlib.Core.List.{List}
-use Prim.Native.Nat.{ℕ, ◌-◌, ◌<◌, ◌≤◌}
+-- Of every node passed it is known that it is as it should be, and how many of them are in.
+use Rattle.std.proofs.Common.{ℕ, ◌<◌, ◌≤◌, List}
 use Rattle.layout.specs.Sound.{NodeOk, depth_above}
 use Rattle.layout.specs.Records.{vars}
 use Rattle.layout.specs.Fields.{fields_of, nodes}
@@ -15,7 +13,4 @@ abbrev pub Passed : List ℕ → ℕ → Type 0
 Passed s n = (k : ℕ) → 1 ≤ k → k < n → Fine s k
 
 abbrev pub invariant-loop-n : goal.invariant-loop-n
-invariant-loop-n l = (l.n ≤ l.m) × ((1 ≤ l.n) × (Passed l.s l.n × Counted (mode_f (fields_of l.s)) l.n l.ins))
-
-abbrev pub decreases-loop-n : goal.decreases-loop-n
-decreases-loop-n l = l.m - l.n
+invariant-loop-n l = Passed l.s l.n × Counted (mode_f (fields_of l.s)) l.n l.ins

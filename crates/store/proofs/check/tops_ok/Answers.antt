@@ -1,31 +1,12 @@
--- Of every cell passed it is known that it is proper; the first that is not refutes the statement.
-use mathlib.Core.Bool.{not}
-use mathlib.Core.Path.{ap}
-use mathlib.Core.Path.{subst}
-use mathlib.Core.List.{List}
-use Prim.Native.Nat.{ℕ}
-use native.Mathlib.Omega.{arith}
-use Rattle.layout.specs.Sound.{Says}
+-- Every top cell is asked by its number.
+use Rattle.std.proofs.Common.{ℕ, arith, rules}
+use Rattle.std.proofs.lemmas.Iterator.{cases_from_all, YieldsList-from_range}
 use Rattle.layout.specs.Records.{ProperCell, top_c}
-use Rattle.layout.proofs.CheckLaws.{held, refuted, below_more}
+use Rattle.store.proofs.Ranges.{says_all}
 use Rattle.store.proofs.check.tops_ok.Goals as goal
 
-pub loop-x-init : goal.loop-x-init
-loop-x-init c = (omega arith, λ k h. absurd (omega arith))
-
-pub returns-then-not-proper : goal.returns-then-not-proper
-returns-then-not-proper c =
-    let tested : Says c.proper.result (ProperCell (top_c c.args.tops.now c.loop-x.x)) = subst (λ (d : List ℕ). Says c.proper.result (ProperCell d)) c.top_cell.ensures c.proper.ensures in
-    λ ok. refuted c.proper.result (ap not c.if-not-proper.true) tested (ok c.loop-x.x (omega arith))
-
-pub overflow_add-x : goal.overflow_add-x
-overflow_add-x c = omega arith
-
-pub loop-x-preserved : goal.loop-x-preserved
-loop-x-preserved c =
-    let tested : Says c.proper.result (ProperCell (top_c c.args.tops.now c.loop-x.x)) = subst (λ (d : List ℕ). Says c.proper.result (ProperCell d)) c.top_cell.ensures c.proper.ensures in
-    let tops = c.args.tops.now in
-    (omega arith, below_more (λ (k : ℕ). ProperCell (top_c tops k)) c.loop-x.x c.loop-x.invariant.1 (held c.proper.result (ap not c.if-not-proper.false) tested))
-
 pub returns : goal.returns
-returns c = λ k h. c.loop-x.invariant.1 k (omega arith)
+returns c =
+    let v = c.args.v in
+    let P : ℕ → Type 0 = λ x. ProperCell (top_c c.args.tops.now x) in
+    says_all P v c.all.result (cases_from_all _ _ _ P (λ x. P x → ⊥) c.all.ensures.ran (YieldsList-from_range 0 v v (cc) (omega arith)) (λ x q k. search rules) (λ x q k. search rules))

@@ -4,4 +4,4 @@ use Rattle.store.proofs.made.is_full.Goals as goal
 
 pub returns : goal.returns
 unfolding IsFull
-returns c = rw (← c.made_of.ensures.0, ← c.room_of.ensures.0) (says_eq c.made_of.result c.room_of.result)
+returns c = rw (← c.made_of.ensures, ← c.room_of.ensures) (says_eq c.made_of.result c.room_of.result)

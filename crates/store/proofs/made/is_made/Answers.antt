@@ -4,4 +4,4 @@ use Rattle.store.proofs.made.is_made.Goals as goal
 
 pub returns : goal.returns
 unfolding IsMade
-returns c = rw (← c.made_of.ensures.0) (says_lt c.args.a c.made_of.result)
+returns c = rw (← c.made_of.ensures) (says_lt c.args.a c.made_of.result)

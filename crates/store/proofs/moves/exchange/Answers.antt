@@ -18,8 +18,8 @@ unfolding swap_b
 returns c =
     let s = c.args.s.now in
     let n = c.args.n in
-    let x = c.var_of-x.ensures.0 in
-    let was = c.bare_of-c.ensures ∙ ap bare_c (c.cell.ensures.0 ∙ ap (cell_of s) x) in
+    let x = c.var_of-x.ensures in
+    let was = c.bare_of-c.ensures ∙ ap bare_c (c.cell.ensures ∙ ap (cell_of s) x) in
     let t = c.swap_at-d.ensures.1 ∙ ap (λ (d : List ℕ). with_node s n (swap_n (node_of s n) c.args.k d)) was in
     let d = c.swap_at-d.ensures.0 in
     c.set_cell.ensures ∙ (λ i. with_cell (t i) (x i) (put_c (cell_of (t i) (x i)) (d i)))

@@ -1,18 +1,11 @@
-use mathlib.Core.Path.{refl}
-use native.Mathlib.Omega.{arith}
-use lib.ListN.{length-set}
+-- The high byte of a number below 2^16 is its quotient by 256.
+use Rattle.std.proofs.Common.{◌≡◌, ap, arith, ◌+◌, ◌/◌, ◌%◌, slice_set}
 use Rattle.layout.specs.Bytes.{put16}
 use Rattle.store.proofs.number.put16_at.Goals as goal
 
-pub bounds-p-o : goal.bounds-p-o
-bounds-p-o c = omega arith
-
-pub overflow_add-p : goal.overflow_add-p
-overflow_add-p c = omega arith
-
-pub bounds-p-o-2 : goal.bounds-p-o-2
-bounds-p-o-2 c = simp length-set (omega arith)
-
 pub returns : goal.returns
 unfolding put16
-returns c = refl
+returns c =
+    let args = c.args in
+    let high : args.v / 256 % 256 ≡ args.v / 256 = omega (arith, c.ranges.v.fits) in
+    rw c.to_le_bytes.ensures (ap (slice_set (slice_set args.p.now args.o (args.v % 256)) (args.o + 1)) high)

@@ -14,4 +14,4 @@ returns c =
     let four = c.set_focus.ensures ∙ ap (λ (b : List ℕ). with_head b 3 0) three in
     let five = c.set_target.ensures ∙ ap (λ (b : List ℕ). with_head b 4 none_n) four in
     c.set_handed.ensures ∙ ap (λ (b : List ℕ). with_head b 5 none_n) five
-    ∙ header_put c.args.s.now c.args.v c.args.n 1 0 none_n none_n c.requires.0
+    ∙ header_put c.args.s.now c.args.v c.args.n 1 0 none_n none_n c.requires

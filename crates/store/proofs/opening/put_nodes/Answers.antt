@@ -18,5 +18,5 @@ written n h =
 
 pub returns : goal.returns
 returns c =
-    let cleared = c.clear.ensures in
+    let cleared = c.fill.ensures.after (λ y e. e) in
     c.turn_node.ensures ∙ ap (λ p. turn_n p 1) cleared ∙ written _ c.requires

@@ -5,24 +5,24 @@ use native.Mathlib.Omega.{arith}
 use lib.Dec.{eqb}
 use Rattle.store.proofs.read.binds.Goals as goal
 
-pub kind_of-k-requires : goal.kind_of-k-requires
-kind_of-k-requires c = fit_made _ c.requires.0 _ c.requires.1
+pub kind_of-requires : goal.kind_of-requires
+kind_of-requires c = fit_made _ c.requires.0 _ c.requires.1
 
 pub var_of-requires : goal.var_of-requires
 var_of-requires c = fit_made _ c.requires.0 _ c.requires.1
 
 pub returns-in-2-to-3 : goal.returns-in-2-to-3
 returns-in-2-to-3 c =
-    let kind = c.kind_of-k.ensures in
-    ap (λ v. eqb v c.args.x) c.var_of.ensures.0
+    let kind = c.kind_of.ensures in
+    ap (λ v. eqb v c.args.x) c.var_of.ensures
     ∙ sym (binds_yes _ c.requires.0 c.args.n c.args.x c.requires.1 (omega arith))
 
 pub returns-in_default : goal.returns-in_default
 returns-in_default c =
-    let kind = c.kind_of-k.ensures in
+    let kind = c.kind_of.ensures in
     sym (binds_low _ c.requires.0 c.args.n c.args.x c.requires.1 (omega arith))
 
 pub returns-in_default-2 : goal.returns-in_default-2
 returns-in_default-2 c =
-    let kind = c.kind_of-k.ensures in
+    let kind = c.kind_of.ensures in
     sym (binds_high _ c.requires.0 c.args.n c.args.x c.requires.1 (omega arith))

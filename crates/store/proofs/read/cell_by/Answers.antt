@@ -21,36 +21,35 @@ node-requires c = fit_made _ c.requires.0 _ c.requires.1.0
 pub returns-then-is_out : goal.returns-then-is_out
 returns-then-is_out c =
     let out = out-by c.kind_of.ensures c.is_out.ensures c.if-is_out.true in
-    let stored = c.stored_of.ensures ∙ ap stored_n c.node.ensures.0 in (
+    let stored = c.stored_of.ensures ∙ ap stored_n c.node.ensures in (
       ap as_cell stored ∙ sym (peek_out _ c.requires.0 c.args.d c.args.x c.requires.1.0 out),
       rw stored (stored_proper _ c.requires.0 _ c.requires.1.0),
     )
 
-pub last_below-k-requires : goal.last_below-k-requires
-last_below-k-requires c =
+pub last_below-requires : goal.last_below-requires
+last_below-requires c =
     let out = out-by c.kind_of.ensures c.is_out.ensures c.if-is_out.false in
     (c.requires.0, not_out_ahead _ c.requires.0 _ c.requires.1.0 out)
 
 pub cell-requires : goal.cell-requires
 cell-requires c = (sound_fit _ c.requires.0, c.requires.1.1)
 
-pub node-requires-else-k-eq0 : goal.node-requires-else-k-eq0
-node-requires-else-k-eq0 c = fit_made _ c.requires.0 _ c.last_below-k.ensures.1
+pub node-requires-in-Some : goal.node-requires-in-Some
+node-requires-in-Some c = fit_made _ c.requires.0 _ c.in-Some.ensures.1
 
-pub returns-then-k-eq0 : goal.returns-then-k-eq0
-returns-then-k-eq0 c =
+pub returns-in-Some : goal.returns-in-Some
+returns-in-Some c =
     let out = out-by c.kind_of.ensures c.is_out.ensures c.if-is_out.false in
-    let bare = c.bare_of.ensures ∙ ap bare_c c.cell.ensures.0 in
-    let k = c.last_below-k.result in (
-      ap as_cell bare ∙ sym (peek_none _ c.requires.0 _ _ k c.requires.1.0 out c.if-k-eq0.true c.requires.1.1 c.last_below-k.ensures.0),
-      rw bare (cell_proper _ c.requires.0 _ c.requires.1.1),
+    let stored = c.stored_of-in-Some.ensures ∙ ap stored_n c.node-in-Some.ensures in
+    let (last, made) = c.in-Some.ensures in (
+      ap as_cell stored ∙ sym (peek_some _ c.requires.0 _ _ _ c.requires.1.0 out made last),
+      rw stored (stored_proper _ c.requires.0 _ made),
     )
 
-pub returns-else-k-eq0 : goal.returns-else-k-eq0
-returns-else-k-eq0 c =
+pub returns-in-None : goal.returns-in-None
+returns-in-None c =
     let out = out-by c.kind_of.ensures c.is_out.ensures c.if-is_out.false in
-    let stored = c.stored_of-else-k-eq0.ensures ∙ ap stored_n c.node-else-k-eq0.ensures.0 in
-    let below = c.last_below-k in (
-      ap as_cell stored ∙ sym (peek_some _ c.requires.0 _ _ below.result c.requires.1.0 out c.if-k-eq0.false below.ensures.1 below.ensures.0),
-      rw stored (stored_proper _ c.requires.0 _ below.ensures.1),
+    let bare = c.bare_of.ensures ∙ ap bare_c c.cell.ensures in (
+      ap as_cell bare ∙ sym (peek_none _ c.requires.0 _ _ c.requires.1.0 out c.requires.1.1 c.in-None.ensures.0),
+      rw bare (cell_proper _ c.requires.0 _ c.requires.1.1),
     )

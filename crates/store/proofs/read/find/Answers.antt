@@ -4,6 +4,6 @@ use Rattle.store.proofs.read.find.Goals as goal
 
 pub returns : goal.returns
 returns c =
-    let (by, made) = c.decider_of-d.ensures in
-    let own = c.cell_by-c.ensures in
+    let (by, made) = c.decider_of-by.ensures in
+    let own = c.cell_by-cell.ensures in
     found_at _ c.requires.0 by made own.0 own.1

@@ -1,47 +1,42 @@
--- At n the climb that is left, with what was seen, gives what the whole climb gives. Each turn is one node up the path.
-use Rattle.store.proofs.read.last_below.Goals.{then-binds, else-binds}
-use Rattle.layout.proofs.SoundLaws.{sound_fit}
-use Rattle.layout.proofs.Reading.{fit_made, path_falls, binder_inner, seeks_start, seeks_inner, seeks_up, seeks_done}
-use mathlib.Core.Path.{sym}
-use native.Mathlib.Omega.{arith}
+-- What is left of the climb, with what was seen, gives what the whole climb gives.
+use Rattle.std.proofs.Common.{◌≡◌, Some}
+use Rattle.layout.specs.Records.{focus}
+use Rattle.layout.proofs.WalkLaws.{focus_made}
+use Rattle.layout.proofs.Reading.{ahead_on_way, seeks_start, seeks_up, seeks_done}
+use Rattle.store.proofs.Ways.{started, gone, arrived}
 use Rattle.store.proofs.read.last_below.Goals as goal
-
-pub focus_of-n-requires : goal.focus_of-n-requires
-focus_of-n-requires c = let fit = sound_fit _ c.requires.0 in omega arith
 
 pub loop-n-init : goal.loop-n-init
 loop-n-init c =
-    rw c.focus_of-n.ensures.0 (seeks_start _ c.requires.0 _ _ c.requires.1)
+    let (ok, ahead) = c.requires in
+    let way = ahead_on_way _ ok _ ahead in
+    let same : c.into_iter-n-iterator.result.s.now ≡ c.args.s.now = cc in
+    let from : c.into_iter-n-iterator.result.at ≡ focus c.args.s.now = cc in
+    let end : c.into_iter-n-iterator.result.end ≡ c.args.stop = cc in
+    (started _ _ c.into_iter-n-iterator.result same end _ from ok (focus_made _ ok) way way.over, tt, same, end, rw from (seeks_start _ ok _ _ ahead))
 
 pub binds-requires : goal.binds-requires
-binds-requires c = (c.requires.0, c.loop-n.invariant.here)
+binds-requires c = (c.requires.0, rw c.in-Some.ensures.steps.2.0 c.loop-n.invariant.4.here)
 
-pub parent_of-n-requires : goal.parent_of-n-requires
-parent_of-n-requires c =
-    fit_made _ c.requires.0 _ c.loop-n.invariant.here
-
-pub loop-n-smaller : goal.loop-n-smaller
-loop-n-smaller c =
-    let sound = c.requires.0 in
-    let was = c.loop-n.invariant in
-    let inner = seeks_inner _ sound was c.loop-n-test.true in
-    rw c.parent_of-n.ensures.0 (path_falls _ sound _ inner was.here)
+pub loop-n-preserved-then-binds : goal.loop-n-preserved-then-binds
+loop-n-preserved-then-binds c =
+    let ok = c.requires.0 in
+    let (can, finite, same, end, at) = c.loop-n.invariant in
+    let g = gone _ _ c.loop-n.n-iterator same end c.next.new.self _ c.in-Some.ensures.steps in
+    let binds = rw g.here at c.if-binds.ensures in
+    (c.in-Some.ensures.goes.keeps, tt, g.still, g.stays, rw (g.up, g.here) (seeks_up _ ok (Some c.loop-n.n-iterator.at) at g.short at.here (rw (← binds))))
 
 pub loop-n-preserved : goal.loop-n-preserved
 loop-n-preserved c =
-    let sound = c.requires.0 in
-    let was = c.loop-n.invariant in
-    let short = c.loop-n-test.true in
-    let inner = seeks_inner _ sound was short in
-    let binds = c.binds.ensures in
-    rw c.parent_of-n.ensures.0
-    (elim c.if-binds.branch [
-      | then-binds w ↦ rw w.seen-is (seeks_up _ sound _ was short was.here (rw (← binds, w.if-binds.true) (sym (binder_inner _ inner))))
-      | else-binds w ↦ rw w.seen-is (seeks_up _ sound _ was short was.last (rw (← binds, w.if-binds.false)))
-    ])
+    let ok = c.requires.0 in
+    let (can, finite, same, end, at) = c.loop-n.invariant in
+    let g = gone _ _ c.loop-n.n-iterator same end c.next.new.self _ c.in-Some.ensures.steps in
+    let binds = rw g.here at c.if-binds.ensures in
+    (c.in-Some.ensures.goes.keeps, tt, g.still, g.stays, rw g.up (seeks_up _ ok _ at g.short at.last (rw (← binds))))
 
 pub returns : goal.returns
 returns c =
-    let sound = c.requires.0 in
-    let was = c.loop-n.invariant in
-    (seeks_done _ sound (rw c.loop-n-test.false at was), was.last)
+    let ok = c.requires.0 in
+    let (can, finite, same, end, at) = c.loop-n.invariant in
+    let there = arrived c.args.s.now _ c.loop-n.n-iterator same end c.next.new.self c.in-None.ensures.steps in
+    (seeks_done _ ok (rw there at at), at.last)

@@ -1,12 +1,9 @@
--- At n the climb that is left, with what was seen, gives what the whole climb gives. Each turn is one node up the path.
-use Rattle.rules.specs.Tree.{path}
-use Rattle.layout.specs.View.{view}
+-- What is left of the climb, with what was seen, gives what the whole climb gives.
+use Rattle.std.proofs.Common.{◌≡◌}
 use Rattle.layout.proofs.Reading.{Seeks}
-use lib.ListN.{length}
 use Rattle.store.proofs.read.last_below.Given as goal
 
 abbrev pub invariant-loop-n : goal.invariant-loop-n
-invariant-loop-n l = Seeks l.s l.stop l.x l.n l.seen
-
-abbrev pub decreases-loop-n : goal.decreases-loop-n
-decreases-loop-n l = length (path (view l.s).tree l.n)
+invariant-loop-n l =
+    (goal.iterator-loop-n).can_next l.n-iterator × (goal.iterator-loop-n).is_finite l.n-iterator
+    × (l.n-iterator.s.now ≡ l.s) × (l.n-iterator.end ≡ l.stop) × Seeks l.s l.stop l.x l.n-iterator.at l.seen

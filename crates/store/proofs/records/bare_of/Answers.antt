@@ -1,6 +1,7 @@
+use Rattle.std.proofs.Common.{refl}
 use Rattle.layout.specs.Records.{bare_c}
 use Rattle.store.proofs.records.bare_of.Goals as goal
 
 pub returns : goal.returns
 unfolding bare_c
-returns c = c.cell_in.ensures
+returns c = refl

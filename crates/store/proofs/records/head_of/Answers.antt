@@ -1,15 +1,8 @@
 -- The number in the two bytes at twice its place.
-use native.Mathlib.Omega.{arith}
 use borrow.Author.Rules.{rules}
 use Rattle.layout.specs.Bytes.{u16, part}
 use Rattle.layout.specs.Records.{head_n, head_of}
 use Rattle.store.proofs.records.head_of.Goals as goal
-
-pub slice_bounds-u16_at-start : goal.slice_bounds-u16_at-start
-slice_bounds-u16_at-start c = omega arith
-
-pub slice_bounds-u16_at-end : goal.slice_bounds-u16_at-end
-slice_bounds-u16_at-end c = omega arith
 
 pub returns : goal.returns
 unfolding head_n u16 head_of part

@@ -1,18 +1,8 @@
 -- What is done to the lent part is done to the node's record in the store (`lent_at`).
 use mathlib.Core.Path.{ap, ◌∙◌}
-use native.Mathlib.Omega.{arith}
 use Rattle.layout.proofs.Bytes.{seen_at, lent_at}
 use Rattle.layout.specs.Records.{with_node, node_of, stored_n, swap_n}
 use Rattle.store.proofs.records.swap_at.Goals as goal
-
-pub overflow_add-e : goal.overflow_add-e
-overflow_add-e c = omega arith
-
-pub slice_bounds-swap_node-start : goal.slice_bounds-swap_node-start
-slice_bounds-swap_node-start c = omega arith
-
-pub slice_bounds-swap_node-end : goal.slice_bounds-swap_node-end
-slice_bounds-swap_node-end c = omega arith
 
 pub returns : goal.returns
 unfolding with_node node_of

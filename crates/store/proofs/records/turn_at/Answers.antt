@@ -1,17 +1,7 @@
 -- What is done to the lent part is done to the node's record in the store (`lent_at`).
-use native.Mathlib.Omega.{arith}
 use Rattle.layout.proofs.Bytes.{lent_at}
 use Rattle.layout.specs.Records.{with_node, node_of, turn_n}
 use Rattle.store.proofs.records.turn_at.Goals as goal
-
-pub overflow_add-e : goal.overflow_add-e
-overflow_add-e c = omega arith
-
-pub slice_bounds-turn_node-start : goal.slice_bounds-turn_node-start
-slice_bounds-turn_node-start c = omega arith
-
-pub slice_bounds-turn_node-end : goal.slice_bounds-turn_node-end
-slice_bounds-turn_node-end c = omega arith
 
 pub returns : goal.returns
 unfolding with_node node_of

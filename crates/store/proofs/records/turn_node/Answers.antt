@@ -1,4 +1,4 @@
-use mathlib.Core.Path.{refl}
+use Rattle.std.proofs.Common.{refl}
 use Rattle.layout.specs.Records.{turn_n}
 use Rattle.store.proofs.records.turn_node.Goals as goal
 

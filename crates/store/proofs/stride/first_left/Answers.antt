@@ -1,42 +1,46 @@
--- The loop's invariant: no wind was passed on the way up from the focus. The measure is the distance that remains.
-use mathlib.Core.Path.{refl}
-use mathlib.Core.Logic.{inl}
-use native.Mathlib.Omega.{arith}
-use Rattle.layout.proofs.SoundLaws.{sound_fit}
-use Rattle.layout.proofs.CheckLaws.{says_yes, says_no}
+-- No wind was passed on the way up from the focus.
+use Rattle.std.proofs.Common.{◌≡◌, refl}
+use Rattle.rules.specs.Moves.{left, route}
+use Rattle.layout.specs.Records.{focus}
+use Rattle.layout.specs.View.{view}
+use Rattle.layout.specs.Legs.{WindAt, place_of, StopsAt}
 use Rattle.layout.proofs.Reading.{fit_made}
-use Rattle.layout.proofs.StopLaws.{below_start, below_wind, below_stops, below_plain, below_less, below_end}
+use Rattle.layout.proofs.WalkLaws.{focus_made}
+use Rattle.layout.proofs.StopLaws.{below_start, below_wind, below_stops, below_plain, below_end}
+use Rattle.store.proofs.Ways.{started, gone, arrived}
 use Rattle.store.proofs.stride.first_left.Goals as goal
 
-pub focus_of-at-requires : goal.focus_of-at-requires
-focus_of-at-requires c = omega (arith, sound_fit _ c.requires.0)
-
-pub loop-at-init : goal.loop-at-init
-loop-at-init c = let (ok, way) = c.requires in rw c.focus_of-at.ensures.0 (below_start _ ok _ way)
+pub loop-n-init : goal.loop-n-init
+loop-n-init c =
+    let (ok, way) = c.requires in
+    let same : c.into_iter-n-iterator.result.s.now ≡ c.args.s.now = cc in
+    let from : c.into_iter-n-iterator.result.at ≡ focus c.args.s.now = cc in
+    let end : c.into_iter-n-iterator.result.end ≡ c.args.meet = cc in
+    (started _ _ c.into_iter-n-iterator.result same end _ from ok (focus_made _ ok) way way.over, tt, same, end, rw from (below_start _ ok _ way))
 
 pub kind_of-requires : goal.kind_of-requires
-kind_of-requires c = fit_made _ c.requires.0 _ c.loop-at.invariant.made
+kind_of-requires c = rw c.in-Some.ensures.steps.2.0 (fit_made _ c.requires.0 _ c.loop-n.invariant.4.made)
 
 pub returns-then-is_wind : goal.returns-then-is_wind
 returns-then-is_wind c =
     let (ok, way) = c.requires in
-    let is = rw c.kind_of.ensures at (says_yes c.is_wind.result c.if-is_wind.true c.is_wind.ensures) in
-    let at = c.loop-at.invariant in
-    record { first_wind = below_wind _ ok _ way _ at c.loop-at-test.true _ refl is; stops = below_stops _ ok _ way _ at c.loop-at-test.true _ refl }
+    let (can, finite, same, end, at) = c.loop-n.invariant in
+    let g = gone _ _ c.loop-n.n-iterator same end c.next.new.self _ c.in-Some.ensures.steps in
+    let wind = rw (c.kind_of.ensures, g.here) at c.if-is_wind.ensures in
+    let s = c.args.s.now in
+    let first : WindAt (view s).tree left (route (view s).tree (focus s) c.args.meet) c.in-Some.n = rw g.here (below_wind _ ok _ way _ at g.short _ g.up wind) in
+    let stop : StopsAt s c.in-Some.n (place_of s c.in-Some.n) = rw g.here (below_stops _ ok _ way _ at g.short _ refl) in
+    record { first_wind = first; stops = stop }
 
-pub parent_of-at-requires : goal.parent_of-at-requires
-parent_of-at-requires c = fit_made _ c.requires.0 _ c.loop-at.invariant.made
-
-pub loop-at-smaller : goal.loop-at-smaller
-loop-at-smaller c =
+pub loop-n-preserved : goal.loop-n-preserved
+loop-n-preserved c =
     let (ok, way) = c.requires in
-    below_less _ ok _ way _ c.loop-at.invariant c.loop-at-test.true _ c.parent_of-at.ensures.0
+    let (can, finite, same, end, at) = c.loop-n.invariant in
+    let g = gone _ _ c.loop-n.n-iterator same end c.next.new.self _ c.in-Some.ensures.steps in
+    (c.in-Some.ensures.goes.keeps, tt, g.still, g.stays, below_plain _ ok _ way _ at g.short _ g.up (rw (c.kind_of.ensures, g.here) at c.if-is_wind.ensures))
 
-pub loop-at-preserved : goal.loop-at-preserved
-loop-at-preserved c =
+pub returns-clause-first_wind : goal.returns-clause-first_wind
+returns-clause-first_wind c =
     let (ok, way) = c.requires in
-    let is-not = rw c.kind_of.ensures at (says_no c.is_wind.result c.if-is_wind.false c.is_wind.ensures) in
-    below_plain _ ok _ way _ c.loop-at.invariant c.loop-at-test.true _ c.parent_of-at.ensures.0 is-not
-
-pub returns : goal.returns
-returns c = let (ok, way) = c.requires in record { first_wind = below_end _ ok _ way _ c.loop-at.invariant c.loop-at-test.false; stops = inl refl }
+    let (can, finite, same, end, at) = c.loop-n.invariant in
+    below_end _ ok _ way _ at (arrived c.args.s.now _ c.loop-n.n-iterator same end c.next.new.self c.in-None.ensures.steps)

@@ -1,10 +1,9 @@
--- The loop's invariant: no wind was passed on the way up from the focus. The measure is the distance that remains.
-use Rattle.layout.specs.Routes.{moves_from}
+-- No wind was passed on the way up from the focus.
+use Rattle.std.proofs.Common.{◌≡◌}
 use Rattle.layout.proofs.StopLaws.{Below}
 use Rattle.store.proofs.stride.first_left.Given as goal
 
-abbrev pub invariant-loop-at : goal.invariant-loop-at
-invariant-loop-at l = Below l.s l.meet l.at
-
-abbrev pub decreases-loop-at : goal.decreases-loop-at
-decreases-loop-at l = moves_from l.s l.at l.meet
+abbrev pub invariant-loop-n : goal.invariant-loop-n
+invariant-loop-n l =
+    (goal.iterator-loop-n).can_next l.n-iterator × (goal.iterator-loop-n).is_finite l.n-iterator
+    × (l.n-iterator.s.now ≡ l.s) × (l.n-iterator.end ≡ l.meet) × Below l.s l.meet l.n-iterator.at

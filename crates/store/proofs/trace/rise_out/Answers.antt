@@ -32,13 +32,13 @@ pub loop-moves-smaller : goal.loop-moves-smaller
 loop-moves-smaller c =
     let tested : c.is_out.result ≡ is_out (kind_n (node_of c.args.s.now c.loop-moves.at)) = c.is_out.ensures ∙ ap is_out c.kind_of.ensures in
     let out : is_out (kind_n (node_of c.args.s.now c.loop-moves.at)) ≡ true = sym tested ∙ c.loop-moves-test.true in
-    climbing_less _ c.requires.0 _ _ _ _ c.loop-moves.invariant out _ c.parent_of-at.ensures.0
+    climbing_less _ c.requires.0 _ _ _ _ c.loop-moves.invariant out _ c.parent_of-at.ensures
 
 pub loop-moves-preserved : goal.loop-moves-preserved
 loop-moves-preserved c =
     let tested : c.is_out.result ≡ is_out (kind_n (node_of c.args.s.now c.loop-moves.at)) = c.is_out.ensures ∙ ap is_out c.kind_of.ensures in
     let out : is_out (kind_n (node_of c.args.s.now c.loop-moves.at)) ≡ true = sym tested ∙ c.loop-moves-test.true in
-    climbing_up _ c.requires.0 _ _ _ _ c.loop-moves.invariant out _ _ c.wind_bit-events.ensures.0 c.parent_of-at.ensures.0
+    climbing_up _ c.requires.0 _ _ _ _ c.loop-moves.invariant out _ _ c.wind_bit-events.ensures.0 c.parent_of-at.ensures
 
 pub returns : goal.returns
 returns c =

@@ -1,41 +1,38 @@
--- `rise_to` meets its contract. The loop's invariant: what lies behind the climb and what remains up to the meeting point are
--- together what the focus has. The measure is the distance that remains.
-use native.Mathlib.Omega.{arith}
-use Rattle.layout.proofs.SoundLaws.{sound_fit}
-use Rattle.layout.proofs.WalkLaws.{made_room}
-use Rattle.layout.proofs.RouteLaws.{few_moves, few_events, rising_start, rising_up, rising_less, rising_end}
+-- What lies behind the climb and what remains up to the meeting point are together what the focus has.
+use Rattle.std.proofs.Common.{◌≡◌, refl, arith}
+use Rattle.layout.specs.Records.{focus}
+use Rattle.layout.proofs.Reading.{fit_made}
+use Rattle.layout.proofs.WalkLaws.{focus_made}
+use Rattle.layout.proofs.RouteLaws.{few_moves, few_events, rising_start, rising_up, rising_end}
+use Rattle.store.proofs.Ways.{started, gone, arrived}
 use Rattle.store.proofs.trace.rise_to.Goals as goal
 
-pub focus_of-at-requires : goal.focus_of-at-requires
-focus_of-at-requires c = omega (arith, sound_fit _ c.requires.0)
-
-pub loop-at-init : goal.loop-at-init
-loop-at-init c = let (ok, way) = c.requires in rising_start _ ok _ way _ c.focus_of-at.ensures.0
+pub loop-n-init : goal.loop-n-init
+loop-n-init c =
+    let (ok, way) = c.requires in
+    let same : c.into_iter-n-iterator.result.s.now ≡ c.args.s.now = cc in
+    let from : c.into_iter-n-iterator.result.at ≡ focus c.args.s.now = cc in
+    let end : c.into_iter-n-iterator.result.end ≡ c.args.meet = cc in
+    (started _ _ c.into_iter-n-iterator.result same end _ from ok (focus_made _ ok) way way.over, tt, same, end, rising_start _ ok _ way _ from)
 
 pub overflow_add-moves : goal.overflow_add-moves
-overflow_add-moves c = omega (arith, c.loop-at.invariant.moved, few_moves _ c.requires.0 c.args.meet)
+overflow_add-moves c = record { fits = omega (arith, c.loop-n.invariant.4.moved, few_moves _ c.requires.0 c.args.meet) }
 
 pub wind_bit-events-requires : goal.wind_bit-events-requires
-wind_bit-events-requires c = let (ok, way) = c.requires in (sound_fit _ ok, made_room _ ok _ c.loop-at.invariant.made)
+wind_bit-events-requires c = rw c.in-Some.ensures.steps.2.0 (fit_made _ c.requires.0 _ c.loop-n.invariant.4.made)
 
 pub overflow_add-events : goal.overflow_add-events
-overflow_add-events c = omega (arith, c.loop-at.invariant.told, few_events _ c.requires.0 c.args.meet)
+overflow_add-events c = record { fits = omega (arith, c.loop-n.invariant.4.told, few_events _ c.requires.0 c.args.meet) }
 
-pub parent_of-at-requires : goal.parent_of-at-requires
-parent_of-at-requires c = let (ok, way) = c.requires in (sound_fit _ ok, made_room _ ok _ c.loop-at.invariant.made)
-
-pub loop-at-smaller : goal.loop-at-smaller
-loop-at-smaller c =
+pub loop-n-preserved : goal.loop-n-preserved
+loop-n-preserved c =
     let (ok, way) = c.requires in
-    rising_less _ ok _ way _ _ _ c.loop-at.invariant c.loop-at-test.true _ c.parent_of-at.ensures.0
-
-pub loop-at-preserved : goal.loop-at-preserved
-loop-at-preserved c =
-    let (ok, way) = c.requires in
-    rising_up _ ok _ way _ _ _ c.loop-at.invariant c.loop-at-test.true _ _ c.wind_bit-events.ensures.0 c.parent_of-at.ensures.0
+    let (can, finite, same, end, at) = c.loop-n.invariant in
+    let g = gone _ _ c.loop-n.n-iterator same end c.next.new.self _ c.in-Some.ensures.steps in
+    (c.in-Some.ensures.goes.keeps, tt, g.still, g.stays, rising_up _ ok _ way _ _ _ at g.short _ _ (rw g.here at c.wind_bit-events.ensures.0) g.up)
 
 pub returns : goal.returns
 returns c =
     let (ok, way) = c.requires in
-    let (moves, events) = rising_end _ ok _ way _ _ _ c.loop-at.invariant c.loop-at-test.false in
-    (c.loop-at-test.false, (moves, events))
+    let (can, finite, same, end, at) = c.loop-n.invariant in
+    (refl, rising_end _ ok _ way _ _ _ at (arrived c.args.s.now _ c.loop-n.n-iterator same end c.next.new.self c.in-None.ensures.steps))

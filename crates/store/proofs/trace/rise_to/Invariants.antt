@@ -1,11 +1,9 @@
--- `rise_to` meets its contract. The loop's invariant: what lies behind the climb and what remains up to the meeting point are
--- together what the focus has. The measure is the distance that remains.
-use Rattle.layout.specs.Routes.{moves_from}
+-- What lies behind the climb and what remains up to the meeting point are together what the focus has.
+use Rattle.std.proofs.Common.{◌≡◌}
 use Rattle.layout.proofs.RouteLaws.{Rising}
 use Rattle.store.proofs.trace.rise_to.Given as goal
 
-abbrev pub invariant-loop-at : goal.invariant-loop-at
-invariant-loop-at l = Rising l.s l.meet l.at l.moves l.events
-
-abbrev pub decreases-loop-at : goal.decreases-loop-at
-decreases-loop-at l = moves_from l.s l.at l.meet
+abbrev pub invariant-loop-n : goal.invariant-loop-n
+invariant-loop-n l =
+    (goal.iterator-loop-n).can_next l.n-iterator × (goal.iterator-loop-n).is_finite l.n-iterator
+    × (l.n-iterator.s.now ≡ l.s) × (l.n-iterator.end ≡ l.meet) × Rising l.s l.meet l.n-iterator.at l.moves l.events

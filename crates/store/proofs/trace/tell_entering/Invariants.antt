@@ -1,10 +1,9 @@
--- `tell_entering` meets its contract. The loop's invariant: the events to be told are those that remain up to here, and then
--- those told so far. The measure is the distance that remains.
-use Rattle.layout.specs.Routes.{moves_to, Entering}
+-- The events to be told are those that remain up to where the climb is, and then those told so far.
+use Rattle.std.proofs.Common.{◌≡◌}
+use Rattle.layout.specs.Routes.{Entering}
 use Rattle.store.proofs.trace.tell_entering.Given as goal
 
-abbrev pub invariant-loop-at : goal.invariant-loop-at
-invariant-loop-at l = Entering l.s l.a l.at l.e l.initial.t l.t
-
-abbrev pub decreases-loop-at : goal.decreases-loop-at
-decreases-loop-at l = moves_to l.s l.at
+abbrev pub invariant-loop-n : goal.invariant-loop-n
+invariant-loop-n l =
+    (goal.iterator-loop-n).can_next l.n-iterator × (goal.iterator-loop-n).is_finite l.n-iterator
+    × (l.n-iterator.s.now ≡ l.s) × (l.n-iterator.end ≡ l.meet) × Entering l.s l.a l.n-iterator.at l.e l.initial.t l.t

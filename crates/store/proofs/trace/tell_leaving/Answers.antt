@@ -1,50 +1,41 @@
--- `tell_leaving` meets its contract. The loop's invariant: the events told so far, and those that remain from here to the
--- meeting point, are together the events to be told. The measure is the distance that remains.
-use mathlib.Core.Path.{refl}
-use native.Mathlib.Omega.{arith}
-use Rattle.layout.proofs.SoundLaws.{sound_fit}
-use Rattle.layout.proofs.WalkLaws.{made_room}
-use Rattle.layout.proofs.TellLaws.{leaving_start, leaving_length, leaving_less, leaving_room, leaving_step, leaving_end}
+-- The events told so far, and those that remain from where the climb is to the meeting point, are together the events to be told.
+use Rattle.std.proofs.Common.{◌≡◌}
+use Rattle.layout.specs.Records.{focus}
+use Rattle.layout.proofs.WalkLaws.{focus_made}
+use Rattle.layout.proofs.TellLaws.{leaving_start, leaving_length, leaving_room, leaving_step, leaving_end}
+use Rattle.store.proofs.Ways.{started, gone, arrived}
 use Rattle.store.proofs.trace.tell_leaving.Goals as goal
 
-pub focus_of-at-requires : goal.focus_of-at-requires
-focus_of-at-requires c = omega (arith, sound_fit _ c.requires.whole.0)
-
-pub loop-at-init : goal.loop-at-init
-loop-at-init c = let (ok, way) = c.requires.whole in leaving_start _ ok _ way _ _ c.focus_of-at.ensures.0
+pub loop-n-init : goal.loop-n-init
+loop-n-init c =
+    let (ok, way) = c.requires.whole in
+    let same : c.into_iter-n-iterator.result.s.now ≡ c.args.s.now = cc in
+    let from : c.into_iter-n-iterator.result.at ≡ focus c.args.s.now = cc in
+    let end : c.into_iter-n-iterator.result.end ≡ c.args.meet = cc in
+    (started _ _ c.into_iter-n-iterator.result same end _ from ok (focus_made _ ok) way way.over, tt, same, end, leaving_start _ ok _ way _ _ from)
 
 pub tell_left-e-requires : goal.tell_left-e-requires
 tell_left-e-requires c =
     let (ok, way) = c.requires.whole in
-    let fits = c.requires.meet_in_bounds in
-    let inv = c.loop-at.invariant in
-    record { whole = (ok, inv.made); n_in_bounds = leaving_room _ ok _ way _ _ _ _ fits inv c.loop-at-test.true _ refl }
+    let (can, finite, same, end, at) = c.loop-n.invariant in
+    let g = gone _ _ c.loop-n.n-iterator same end c.next.new.self _ c.in-Some.ensures.steps in
+    rw g.here record { whole = (ok, at.made); n_in_bounds = leaving_room _ ok _ way _ _ _ _ c.requires.meet_in_bounds at g.short _ g.up }
 
-pub parent_of-at-requires : goal.parent_of-at-requires
-parent_of-at-requires c =
-    let ok = c.requires.whole.0 in
-    (sound_fit _ ok, made_room _ ok _ c.loop-at.invariant.made)
-
-pub loop-at-smaller : goal.loop-at-smaller
-loop-at-smaller c =
+pub loop-n-preserved : goal.loop-n-preserved
+loop-n-preserved c =
     let (ok, way) = c.requires.whole in
-    let fits = c.requires.meet_in_bounds in
-    leaving_less _ ok _ way _ _ _ _ fits c.loop-at.invariant c.loop-at-test.true _ c.parent_of-at.ensures.0
-
-pub loop-at-preserved : goal.loop-at-preserved
-loop-at-preserved c =
-    let (ok, way) = c.requires.whole in
-    let fits = c.requires.meet_in_bounds in
-    leaving_step _ ok _ way _ _ _ _ fits c.loop-at.invariant c.loop-at-test.true _ c.parent_of-at.ensures.0 _ _ c.tell_left-e.ensures.0 c.tell_left-e.ensures.1
+    let (can, finite, same, end, at) = c.loop-n.invariant in
+    let g = gone _ _ c.loop-n.n-iterator same end c.next.new.self _ c.in-Some.ensures.steps in
+    let (count, told) = rw g.here at c.tell_left-e.ensures in
+    (c.in-Some.ensures.goes.keeps, tt, g.still, g.stays, leaving_step _ ok _ way _ _ _ _ c.requires.meet_in_bounds at g.short _ g.up _ _ count told)
 
 pub shape_of-t : goal.shape_of-t
 shape_of-t c =
     let (ok, way) = c.requires.whole in
-    let fits = c.requires.meet_in_bounds in
-    leaving_length _ ok _ way _ _ _ _ fits c.loop-at.invariant
+    leaving_length _ ok _ way _ _ _ _ c.requires.meet_in_bounds c.loop-n.invariant.4
 
 pub returns : goal.returns
 returns c =
     let (ok, way) = c.requires.whole in
-    let fits = c.requires.meet_in_bounds in
-    leaving_end _ ok _ way _ _ _ _ fits c.loop-at.invariant c.loop-at-test.false
+    let (can, finite, same, end, at) = c.loop-n.invariant in
+    leaving_end _ ok _ way _ _ _ _ c.requires.meet_in_bounds at (arrived c.args.s.now _ c.loop-n.n-iterator same end c.next.new.self c.in-None.ensures.steps)

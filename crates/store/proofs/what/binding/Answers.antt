@@ -11,15 +11,14 @@ var_of-x-requires c = let (ok, (made, is)) = c.requires in fit_made _ ok _ made
 pub find-found-requires : goal.find-found-requires
 find-found-requires c =
     let (ok, (made, is)) = c.requires in
-    (ok, (made, rw c.var_of-x.ensures.0 (binding_is _ ok _ made is).1))
+    (ok, (made, rw c.var_of-x.ensures (binding_is _ ok _ made is).1))
 
-pub parent_of-requires : goal.parent_of-requires
-parent_of-requires c = let (ok, (made, is)) = c.requires in fit_made _ ok _ made
+pub parent_of-parent-requires : goal.parent_of-parent-requires
+parent_of-parent-requires c = let (ok, (made, is)) = c.requires in fit_made _ ok _ made
 
 pub returns : goal.returns
 returns c =
     let (ok, (made, is)) = c.requires in
-    let up = c.parent_of.ensures.0 in
-    let x = c.var_of-x.ensures.0 in
-    c.parts.ensures
-    ∙ tells_binding _ _ ((binding_is _ ok _ made is).0 ∙ rw (← x)) (up_under _ ok _ made (omega (arith, is.0)) ∙ sym up) c.find-found.ensures
+    let up = c.parent_of-parent.ensures in
+    let x = c.var_of-x.ensures in
+    tells_binding _ _ _ ((binding_is _ ok _ made is).0 ∙ rw (← x)) (up_under _ ok _ made (omega (arith, is.0)) ∙ sym up) c.find-found.ensures c.value_in.ensures

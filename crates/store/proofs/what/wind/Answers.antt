@@ -1,5 +1,4 @@
 -- A wind is told by its record: its parent and its thunks.
-use mathlib.Core.Path.{◌∙◌}
 use native.Mathlib.Omega.{arith}
 use Rattle.layout.proofs.Reading.{fit_made, up_under, wind_is}
 use Rattle.store.proofs.Tells.{tells_wind}
@@ -17,6 +16,5 @@ post_of-requires c = let (ok, (made, is)) = c.requires in fit_made _ ok _ made
 pub returns : goal.returns
 returns c =
     let (ok, (made, is)) = c.requires in
-    c.parts.ensures
-    ∙ rw (c.parent_of.ensures.0, c.var_of.ensures.0, c.post_of.ensures.0)
+    rw (c.parent_of.ensures, c.var_of.ensures, c.post_of.ensures)
     (tells_wind _ _ (wind_is _ ok _ made is) (up_under _ ok _ made (omega (arith, is.0))))

@@ -1,13 +1,16 @@
 -- `text::decimal::begins_ill` meets its contract. Assumes nothing.
-use mathlib.Core.Path.{sym}
-use Rattle.text.proofs.Reading.{begins_empty, begins_alone, begins_long}
+use Rattle.std.proofs.Common.{rules}
+use Rattle.text.proofs.Reading.{begins_empty, begins_alone, begins_zero, begins_other}
 use Rattle.text.proofs.decimal.begins_ill.Goals as goal
 
-pub returns-then-s-eq0 : goal.returns-then-s-eq0
-returns-then-s-eq0 c = sym (begins_empty _ c.if-s-eq0.true)
+pub returns-in-empty : goal.returns-in-empty
+returns-in-empty c = search (rules, begins_empty)
 
-pub returns-then-s-eq1 : goal.returns-then-s-eq1
-returns-then-s-eq1 c = sym (begins_alone _ c.if-s-eq1.true)
+pub returns-in_default : goal.returns-in_default
+returns-in_default c = search (rules, begins_alone)
 
-pub returns : goal.returns
-returns c = sym (begins_long _ c.if-s-eq0.false c.if-s-eq1.false)
+pub returns-in-empty-2 : goal.returns-in-empty-2
+returns-in-empty-2 c = search (rules, begins_zero)
+
+pub returns-in_default-2 : goal.returns-in_default-2
+returns-in_default-2 c = search (rules, begins_other)

@@ -1,26 +1,25 @@
 -- `text::decimal::read_whole` meets its contract. Assumes nothing.
-use mathlib.Core.Path.{ap}
-use Rattle.text.specs.Finds.{got}
-use Rattle.text.specs.Numbers.{natural_of}
-use Rattle.text.proofs.Signed.{empty, minus_none, minus_some, plain_none, plain_some}
+use Rattle.std.proofs.Common.{refl, ◌≡◌, get_or, rules}
+use Rattle.text.proofs.Signed.{no_first, minus_none, minus_some, plain_none, plain_some}
 use Rattle.text.proofs.decimal.read_whole.Goals as goal
+use Rattle.text.proofs.decimal.read_whole.Goals.{in_default-via-then-s-lt1, in_default-via-else-s-lt1+in_default-1}
 
-pub returns-then-s-eq0 : goal.returns-then-s-eq0
-returns-then-s-eq0 c = empty _ c.if-s-eq0.true
+pub returns-in_ok-read_natural-in-45 : goal.returns-in_ok-read_natural-in-45
+returns-in_ok-read_natural-in-45 c =
+    let e : get_or c.args.s.now 0 0 ≡ 45 = search rules in
+    minus_some c.in-45.len_at_least e c.in_ok-read_natural-in-45.ensures refl c.checked_sub_unsigned.ensures
 
-pub returns-in_default : goal.returns-in_default
-returns-in_default c = minus_none c.if-s-eq0.false c.if-s-eq45.true c.read_natural.ensures (ap natural_of c.in_default.is)
+pub returns-in_err-read_natural-in-45 : goal.returns-in_err-read_natural-in-45
+returns-in_err-read_natural-in-45 c =
+    let e : get_or c.args.s.now 0 0 ≡ 45 = search rules in
+    rw c.from_residual.ensures (minus_none c.in-45.len_at_least e c.in_err-read_natural-in-45.ensures refl)
 
-pub below_zero-requires : goal.below_zero-requires
-below_zero-requires c =
-    let w = got c.read_natural.ensures (ap natural_of c.in-Value.is) in
-    (w.low, w.high)
+pub returns-in_ok-read_natural-in_default : goal.returns-in_ok-read_natural-in_default
+returns-in_ok-read_natural-in_default c =
+    let n : get_or c.args.s.now 0 0 ≡ 45 → ⊥ = elim c.in_default.branch [ in_default-via-then-s-lt1 w ↦ search (rules, no_first) | in_default-via-else-s-lt1+in_default-1 w ↦ search rules ] in
+    plain_some n c.in_ok-read_natural-in_default.ensures refl c.checked_add_unsigned.ensures
 
-pub returns-then-s-eq45 : goal.returns-then-s-eq45
-returns-then-s-eq45 c = minus_some c.if-s-eq0.false c.if-s-eq45.true c.read_natural.ensures (ap natural_of c.in-Value.is) c.below_zero.ensures
-
-pub returns-in_default-read_natural : goal.returns-in_default-read_natural
-returns-in_default-read_natural c = plain_none c.if-s-eq0.false c.if-s-eq45.false c.read_natural-2.ensures (ap natural_of c.in_default-read_natural.is)
-
-pub returns : goal.returns
-returns c = plain_some c.if-s-eq0.false c.if-s-eq45.false c.read_natural-2.ensures (ap natural_of c.in-Value-read_natural.is)
+pub returns-in_err-read_natural-in_default : goal.returns-in_err-read_natural-in_default
+returns-in_err-read_natural-in_default c =
+    let n : get_or c.args.s.now 0 0 ≡ 45 → ⊥ = elim c.in_default.branch [ in_default-via-then-s-lt1 w ↦ search (rules, no_first) | in_default-via-else-s-lt1+in_default-1 w ↦ search rules ] in
+    rw c.from_residual-in_err-read_natural-in_default.ensures (plain_none n c.in_err-read_natural-in_default.ensures refl)

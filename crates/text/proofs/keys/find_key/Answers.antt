@@ -1,27 +1,21 @@
--- `text::keys::find_key` meets its contract. The loop's invariant: the line starts with no key before i. Assumes nothing.
-use borrow.Author.Rules.{rules}
-use mathlib.Core.Path.{sym}
-use native.Mathlib.Omega.{arith}
-use borrow.Author.Count.{below_more}
-use lib.Seq.{length-take-le}
-use Rattle.text.specs.Keys.{word_at}
-use Rattle.text.proofs.KeyTable.{inside, searched, passed, through}
+-- `text::keys::find_key` meets its contract. The table is compared by computing. Assumes nothing.
+use Rattle.std.proofs.Common.{refl, below_none, below_more}
+use Rattle.text.proofs.KeyTable.{entry_at, tells_start, searched, passed, through}
 use Rattle.text.proofs.keys.find_key.Goals as goal
 
-pub loop-i-init : goal.loop-i-init
-loop-i-init c = (search rules, λ k h. absurd (omega arith))
+pub loop-key-init : goal.loop-key-init
+loop-key-init c = (record { same = refl }, below_none _)
 
-pub slice_bounds-t-end : goal.slice_bounds-t-end
-slice_bounds-t-end c = inside (word_at c.loop-i.i) c.key_at-k.ensures
+pub returns-then-starts_with : goal.returns-then-starts_with
+returns-then-starts_with c =
+    searched (entry_at c.loop-key.invariant.0 c.loop-key.key-index _ c.loop-key-test.true) ((tells_start _ _ c.starts_with.ensures.value).holds c.if-starts_with.true)
 
-pub slice_bounds-starts-end : goal.slice_bounds-starts-end
-slice_bounds-starts-end c = sym (length-take-le _ _ (inside (word_at c.loop-i.i) c.key_at-k.ensures))
-
-pub returns-then-starts : goal.returns-then-starts
-returns-then-starts c = searched (word_at c.loop-i.i) c.key_at-k.ensures (c.starts.ensures.holds c.if-starts.true)
-
-pub loop-i-preserved : goal.loop-i-preserved
-loop-i-preserved c = (search rules, below_more _ _ c.loop-i.invariant.1 (passed (word_at c.loop-i.i) c.key_at-k.ensures (c.starts.ensures.fails c.if-starts.false)))
+pub loop-key-preserved : goal.loop-key-preserved
+loop-key-preserved c = (
+  c.loop-key.invariant.0,
+  below_more _ _ c.loop-key.invariant.1
+      (passed (entry_at c.loop-key.invariant.0 c.loop-key.key-index _ c.loop-key-test.true) ((tells_start _ _ c.starts_with.ensures.value).fails c.if-starts_with.false)),
+)
 
 pub returns : goal.returns
-returns c = through c.loop-i-test.false c.loop-i.invariant.1
+returns c = through c.loop-key-test.false c.loop-key.invariant.1

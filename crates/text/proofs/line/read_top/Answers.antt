@@ -1,20 +1,19 @@
 -- `text::line::read_top` meets its contract. Assumes nothing.
-use mathlib.Core.Path.{ap}
-use Rattle.text.specs.Finds.{got}
-use Rattle.text.specs.Numbers.{whole_of}
+use Rattle.std.proofs.Common.{◌≡◌, arith, Some, option_map}
+use Rattle.std.proofs.lemmas.Slice.Eq.{text_from_reads}
+use Rattle.std.proofs.lemmas.Grind.{common_steps}
+use Rattle.text.specs.Words.{bytes}
 use Rattle.text.specs.declared.keys.Word.TheVariants.{Top}
-use mathlib.Core.Path.{refl}
-use Rattle.text.proofs.Operands.{said, unsaid, top_none, top_value, top_bad, kept}
+use Rattle.text.proofs.Operands.{said, make, top_none, top_value}
 use Rattle.text.proofs.line.read_top.Goals as goal
 
-pub returns-then-is_text : goal.returns-then-is_text
-returns-then-is_text c = said Top (top_none c.is_text.ensures c.if-is_text.true) refl
+pub returns-in-none : goal.returns-in-none
+returns-in-none c =
+    let e : c.args.s.now ≡ bytes "none" = text_from_reads _ (bytes "none") (omega arith) (omega arith, (omega arith, (omega arith, (omega arith, tt)))) in
+    said Top (top_none e)
 
 pub returns-in_default : goal.returns-in_default
-returns-in_default c = unsaid Top (top_bad c.is_text.ensures c.if-is_text.false c.read_whole.ensures (ap whole_of c.in_default.is)) refl
-
-pub returns : goal.returns
-returns c =
-    let e = ap whole_of c.in-Value.is in
-    rw (kept c.in-Value.v (got c.read_whole.ensures e).range)
-    (said Top (top_value c.is_text.ensures c.if-is_text.false c.read_whole.ensures e) refl)
+returns-in_default c =
+    let n : c.args.s.now ≡ bytes "none" → ⊥ = grind (arith, common_steps) in
+    let e : c.map.result ≡ option_map (make Top) (option_map Some c.read_whole.result) = grind (arith, common_steps) in
+    rw e (said Top (top_value n c.read_whole.ensures))

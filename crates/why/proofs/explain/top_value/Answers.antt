@@ -1,11 +1,14 @@
 -- `why::explain::top_value` meets its contract. Assumes nothing.
-use mir.Syntax.{w32}
-use mir.ValLaws.{to_z-of_z}
-use Rattle.why.proofs.Peeking.{top_none, top_found}
+use Rattle.std.proofs.Common.{rules}
+use Rattle.why.proofs.Peeking.{top_seen, top_unseen, top_refused}
 use Rattle.why.proofs.explain.top_value.Goals as goal
 
-pub returns-then-n-ne0 : goal.returns-then-n-ne0
-returns-then-n-ne0 c = top_none c.requires.0 c.requires.1 c.peek.ensures c.numbers_of-n.ensures c.if-n-ne0.true
+pub returns-in-Ok-Value : goal.returns-in-Ok-Value
+returns-in-Ok-Value c =
+    let seen = top_seen c.requires.0 c.requires.1 c.in-Ok-Value.seen (rw c.in-Ok-Value.field-0-is at c.in-Ok-Value.ensures) in search rules
 
-pub returns : goal.returns
-returns c = rw (to_z-of_z w32 c.numbers_of-n.result.out (record { sfits = c.struct_told-1.given.0.1 })) (top_found c.requires.0 c.requires.1 c.peek.ensures c.numbers_of-n.ensures c.if-n-ne0.false)
+pub returns-in-Ok : goal.returns-in-Ok
+returns-in-Ok c = top_unseen c.requires.0 c.requires.1 c.in-Ok.field-0 (search rules) c.in-Ok.ensures
+
+pub returns-in-Err : goal.returns-in-Err
+returns-in-Err c = top_refused c.requires.0 c.requires.1 c.in-Err.field-0 c.in-Err.ensures
