@@ -91,6 +91,22 @@ zeros_largest p = (λ e. (none_larger p 0 e).1, λ e. ap (fold max 0) e ∙ larg
     largest_zero zero = refl
     largest_zero (suc n) = largest_zero n
 
+-- ---- bytes that are zero, and one byte more
+module _ (p : List ℕ) (i : ℕ) where
+  pub zeros_on : (other : ℕ) → get_or p i 0 ≤ other → Says (eqb other 0) (Zeros p 0 i) → Says (eqb other 0) (Zeros p 0 (i + 1))
+  zeros_on other e = go (eqb other 0) refl
+    where
+      go : (b : Bool) → eqb other 0 ≡ b → Says b (Zeros p 0 i) → Says b (Zeros p 0 (i + 1))
+      go true q z = λ j l. below_more (λ (k : ℕ). get_or p k 0 ≡ 0) i (λ k. z k (omega arith)) (omega (arith, eqb-true other 0 q)) j
+      go false q z = λ w. z (λ j l h. w j l (omega arith))
+
+  pub zeros_off : (other : ℕ) → other < get_or p i 0 → Says (eqb (get_or p i 0) 0) (Zeros p 0 (i + 1))
+  zeros_off other d = go (eqb (get_or p i 0) 0) refl
+    where
+      go : (b : Bool) → eqb (get_or p i 0) 0 ≡ b → Says b (Zeros p 0 (i + 1))
+      go true q = absurd (omega (arith, eqb-true (get_or p i 0) 0 q))
+      go false q = λ z. omega (arith, z i (omega arith) (omega arith))
+
 -- a part s[a..e]
 module _ (s : List ℕ) (a e : ℕ) (le : a ≤ e) (fits : e ≤ length s) where
   lent_length : length (take (e - a) (drop a s)) ≡ e - a
@@ -112,6 +128,9 @@ module _ (s : List ℕ) (a e : ℕ) (le : a ≤ e) (fits : e ≤ length s) where
 
 count_more : (b : ℕ → Bool) (n : ℕ) → count b (n + 1) ≡ num (b n) + count b n
 count_more b n = rw add-one
+
+pub counted_none : (b : ℕ → Bool) → Counted b 1 0
+counted_none b = record { few = omega arith; all = refl }
 
 pub counted_in : (b : ℕ → Bool) (n k : ℕ) → Counted b n k → b n ≡ true → Counted b (n + 1) (k + 1)
 counted_in b n k c e = record { few = omega (arith, c.few); all = omega (arith, count_more b n, c.all, ap num e) }

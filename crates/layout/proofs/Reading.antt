@@ -166,6 +166,9 @@ module _ (s : List ℕ) (ok : Whole s) where
   path_next : (n : ℕ) → 1 ≤ n → IsMade s n → path (view s).tree n ≡ n ∷ path (view s).tree (parent_n (node_of s n))
   path_next n l m = path_up (view s).tree proper n (parent_n (node_of s n)) (up_is n l m)
 
+  pub path_falls : (n : ℕ) → 1 ≤ n → IsMade s n → length (path (view s).tree (parent_n (node_of s n))) < length (path (view s).tree n)
+  path_falls n l m = rw (path_next n l m) (omega arith)
+
   -- ---- whether the node n binds x
   pub binds_yes : (n x : ℕ) → IsMade s n → IsBinding (kind_n (node_of s n)) → binds ((view s).tree.what n) x ≡ eqb (var_n (node_of s n)) x
   binds_yes n x m is = ap (λ (w : What). binds w x) (what_is n m) ∙ binds_binding (node_of s n) x is

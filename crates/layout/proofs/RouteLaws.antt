@@ -305,6 +305,9 @@ module _ (s : List ℕ) (ok : Whole s) where
           let bit = length_event t (left g) ∙ ap is_wind (what_node g at.made) in
           record { made = r.made; over = r.over; moved = omega (arith, at.moved, r.moves); told = omega (arith, at.told) }
 
+      pub rising_less : g ≢ m → (p : ℕ) → p ≡ parent_n (records.node_of s g) → moves_from s p m < moves_from s g m
+      rising_less d p e = omega (arith, (risen m way g at.made at.over d p e).moves)
+
       pub rising_end : g ≡ m → (moves ≡ moves_to s m) × (events ≡ length (events_to s m))
       rising_end e =
           let none : moves_from s g m ≡ 0 = rw e (far_self t proper m) in

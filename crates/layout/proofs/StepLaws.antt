@@ -29,7 +29,7 @@ use Rattle.layout.proofs.WalkLaws.{sized_self, made_seen, seen_made, parent_seen
 use Rattle.layout.proofs.RouteLaws.{what_node, wind_kind, few_moves}
 use Rattle.layout.proofs.TellLaws.{parent, left_wind, entered_wind}
 use Rattle.layout.proofs.StrideLaws.{Rewalked}
-use Rattle.layout.proofs.HandedLaws.{walking_at, target_made, under_way_lem, walks, over}
+use Rattle.layout.proofs.HandedLaws.{top_kind, walking_at, target_made, under_way_lem, walks, over}
 use Rattle.layout.specs.Legs.{WindAt, place_of, Above}
 use Rattle.layout.proofs.StopLaws.{leg_left, leg_entered, leg_arrives}
 use Rattle.layout.specs.Legs.{Moved, enters_first}
@@ -107,6 +107,10 @@ module _ (s : List ℕ) (ok : Whole s) (a : ℕ) (made : IsMade s a) where
 
   wind_up : (w : ℕ) → is_wind (t.what w) ≡ 1 → t.up w ≡ some (place_of s w)
   wind_up w is = parent s ok w (wind_made w is) (wind_record w is)
+
+  -- the top is none
+  not_top : (w : ℕ) → is_wind (t.what w) ≡ 1 → w ≡ 0 → ⊥
+  not_top w is e = omega (arith, top_kind s ok, ap (λ (n : ℕ). kind_n (node_of s n)) e, wind_record w is)
 
   -- the first wind on the focus's way up is left
   pub leaves : (m : ℕ) (o : answered.Option ℕ) → Above s a m o → (w : ℕ) → WindAt t left (route t f m) w → IsMade s w × LegIs s a (place_of s w) (leaving s w ∷ []) none

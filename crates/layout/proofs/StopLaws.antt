@@ -23,13 +23,13 @@ use Rattle.layout.specs.View.{view_f, view}
 use Rattle.layout.specs.Fields.{fields_of}
 use Rattle.layout.specs.Sound.{Whole}
 use Rattle.layout.specs.Made.{IsMade}
-use Rattle.layout.specs.Routes.{moves_to, meeting, Over, OnWay}
+use Rattle.layout.specs.Routes.{moves_from, moves_to, meeting, Over, OnWay}
 use Rattle.layout.proofs.SoundLaws.{what_wind, sound_fit}
 use Rattle.layout.proofs.Laws.{node_in, of_buffer}
 use Rattle.layout.proofs.MoveLaws.{inner}
 use Rattle.layout.proofs.CheckLaws.{ins_focus, sound_rises}
 use Rattle.layout.proofs.WalkLaws.{made_seen, made_room, focus_made, out_up, in_above, parent_made, parent_seen}
-use Rattle.layout.proofs.RouteLaws.{proper, what_node, out_off, in_meets, below_over, meet_up, moves_entered, plain}
+use Rattle.layout.proofs.RouteLaws.{proper, what_node, out_off, in_meets, below_over, meet_up, moves_entered, plain, risen}
 use Rattle.layout.specs.Legs.{WindAt, FirstWind, place_of, StopsAt, Above}
 
 -- no event of a node that is no wind, one of a wind
@@ -80,6 +80,9 @@ module _ (s : List ℕ) (ok : Whole s) where
   f = focus s
 
   -- ---- the climb from the target
+  pub above_start : (a : ℕ) → IsMade s a → Above s a a None
+  above_start a m = record { made = m; same = refl; passed = []; way = sym (append-nil (route t f a)); first = refl; stop = tt }
+
   module _ (a c : ℕ) (o : Option ℕ) (at : Above s a c o) (out : is_out (kind_n (records.node_of s c)) ≡ true) (p : ℕ) (named : p ≡ parent_n (records.node_of s c)) where
     up : t.up c ≡ some p
     up = (out_up s ok c at.made out).0 ∙ ap some (sym named)
@@ -126,6 +129,11 @@ module _ (s : List ℕ) (ok : Whole s) where
           quiet = quiet_first t (entered c) h.pre still h.quiet;
           wind = h.wind;
         }
+
+  pub above_up : (a c : ℕ) (o : Option ℕ) → Above s a c o → is_out (kind_n (records.node_of s c)) ≡ true → (v : Option ℕ)
+      → (IsWind (kind_n (records.node_of s c)) × (v ≡ Some c)) ⊎ ((IsWind (kind_n (records.node_of s c)) → ⊥) × (v ≡ o)) → (p : ℕ) → p ≡ parent_n (records.node_of s c) → Above s a p v
+  above_up a c o at out v (inl (is, e)) p named = rw e (above_wind a c o at out p named is)
+  above_up a c o at out v (inr (is_not, e)) p named = rw e (above_plain a c o at out p named is_not)
 
   pub above_less : (a c : ℕ) (o : Option ℕ) → Above s a c o → is_out (kind_n (records.node_of s c)) ≡ true → (p : ℕ) → p ≡ parent_n (records.node_of s c) → moves_to s p < moves_to s c
   above_less a c o at out p named =
@@ -175,6 +183,9 @@ module _ (s : List ℕ) (ok : Whole s) where
         where
           still : is_wind (t.what g) ≡ 0
           still = ap is_wind (what_node s ok g at.made) ∙ plain (records.node_of s g) is_not
+
+    pub below_less : (g : ℕ) → Below s m g → g ≢ m → (p : ℕ) → p ≡ parent_n (records.node_of s g) → moves_from s p m < moves_from s g m
+    below_less g at d p named = omega (arith, (risen s ok m on_way g at.made at.over d p named).moves)
 
     pub below_end : (g : ℕ) → Below s m g → g ≡ m → trace t (route t f m) ≡ []
     below_end g at e =

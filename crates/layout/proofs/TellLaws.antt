@@ -1,6 +1,6 @@
 -- A switch's events told: the leaving ones forward from the focus, the entering ones backward from the target, both up to the
 -- meeting point. Assumes nothing.
-use Rattle.std.specs.Prelude.{◌≡◌, refl, ◌≢◌, Bool, true, false, ℕ, ◌+◌, ◌*◌, ◌≤◌, List, [], ◌∷◌, ◌++◌, length}
+use Rattle.std.specs.Prelude.{◌≡◌, refl, ◌≢◌, Bool, true, false, ℕ, suc, ◌+◌, ◌*◌, ◌≤◌, ◌<◌, List, [], ◌∷◌, ◌++◌, length}
 use Rattle.std.proofs.Common.{sym, ◌∙◌, inr, arith, append-nil, append_assoc, length-append}
 use Rattle.std.proofs.Math.Path.{ap}
 use Rattle.std.proofs.Math.Option.{Option, some}
@@ -19,8 +19,8 @@ use Rattle.layout.specs.Made.{IsMade}
 use Rattle.layout.proofs.Laws.{node_in}
 use Rattle.layout.proofs.SoundLaws.{what_wind, up_node}
 use Rattle.layout.proofs.WalkLaws.{made_seen, made_room, focus_made, parent_seen, parent_made}
-use Rattle.layout.specs.Routes.{Over, left_events, entered_events, meeting, OnWay, told_at, Entering}
-use Rattle.layout.proofs.RouteLaws.{events_entered, events_none, meet_up, below_meet, plain, what_node, proper, risen}
+use Rattle.layout.specs.Routes.{Over, moves_to, moves_from, left_events, entered_events, meeting, OnWay, told_at, Entering}
+use Rattle.layout.proofs.RouteLaws.{moves_entered, events_entered, events_none, meet_up, below_meet, plain, what_node, proper, risen}
 use Rattle.layout.proofs.EventLaws.{told_first, told_none, told_left, told_entered, told_length, told_next, told_prev}
 
 -- ---- the events of one node
@@ -99,6 +99,9 @@ module _ (s : List ℕ) (ok : Whole s) where
       leaving_length = ap length at.bytes ∙ told_length 0 at.front [] t₀ leaving_fits
 
       module _ (d : g ≢ m) (p : ℕ) (named : p ≡ parent_n (node_of s g)) where
+        pub leaving_less : moves_from s p m < moves_from s g m
+        leaving_less = omega (arith, (risen s ok m way g at.made at.over d p named).moves)
+
         -- the node's own event has room
         pub leaving_room : event_size * (e + length (left_events s g)) ≤ length now
         leaving_room =
@@ -143,13 +146,17 @@ module _ (s : List ℕ) (ok : Whole s) where
         record Below : Type 0 where
           made : IsMade s p
           same : meeting s c ≡ meeting s p
+          moves : moves_to s c ≡ suc (moves_to s p)
           events : events_to s c ≡ events_to s p ++ entered_events s c
 
         below : Below
         below =
             let (q, u, o) = below_meet t (proper s ok) (focus s) c (made_seen s ok c at.made) (λ z. d (z ∙ at.same)) in
             let up : t.up c ≡ some p = u ∙ ap some (sym (parent_seen s ok c q u) ∙ sym named) in
-            record { made = parent_made s ok c p up; same = meet_up t (proper s ok) (focus s) c p up o; events = events_entered t (proper s ok) (focus s) c p up o }
+            record { made = parent_made s ok c p up; same = meet_up t (proper s ok) (focus s) c p up o; moves = moves_entered t (proper s ok) (focus s) c p up o; events = events_entered t (proper s ok) (focus s) c p up o }
+
+        pub entering_less : moves_to s p < moves_to s c
+        entering_less = omega (arith, below.moves)
 
         counts : e ≡ length (events_to s p) + length (entered_events s c)
         counts = at.count ∙ ap length below.events ∙ length-append (events_to s p) (entered_events s c)
