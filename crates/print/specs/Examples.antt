@@ -31,7 +31,7 @@ unfolding bad_line decimal tens
 too_long = refl
 
 -- the lines of an explanation (document 02, W7)
-pub bound : bind_line 3 0 (Some (negsuc 0)) ≡ bytes "env=3 bind=0,-1\n"
+pub bound : bind_line 3 0 (Some (Number (negsuc 0))) ≡ bytes "env=3 bind=0,-1\n"
 unfolding bind_line decimal whole tens
 bound = refl
 
@@ -43,6 +43,6 @@ pub behind : shadowed_line 1 None ≡ bytes "shadowed=1 value=none\n"
 unfolding shadowed_line decimal tens
 behind = refl
 
-pub top_value : top_value_line (Some (pos 1)) ≡ bytes "top=1\n"
+pub top_value : top_value_line (Some (Number (pos 1))) ≡ bytes "top=1\n"
 unfolding top_value_line decimal whole tens
 top_value = refl

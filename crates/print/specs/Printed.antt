@@ -1,6 +1,6 @@
 -- The text that a run prints (document 01, "The card"): the line of an operation, of an event, and of a card that is no good.
 -- Assumes nothing: these are definitions.
-use Rattle.std.specs.Prelude.{Bool, true, false, List, ◌++◌, ℕ, ℤ, Option, Some, None}
+use Rattle.std.specs.Prelude.{Bool, true, false, List, ◌++◌, ℕ, Option, Some, None}
 use Rattle.std.proofs.Math.Option as maybe
 use Rattle.rules.specs.Refusals.{no_line}
 use Rattle.text.specs.Words.{bytes}
@@ -8,11 +8,6 @@ use Rattle.text.specs.Decimal.{decimal, whole}
 use Rattle.print.specs.declared.Out.{Out}
 use Rattle.print.specs.declared.Out.TheVariants.{Number, Value}
 use Rattle.print.specs.declared.Report.{Report}
-
--- a value, and none where there is none
-abbrev pub value_text : Option ℤ → List ℕ
-value_text None = bytes "none"
-value_text (Some v) = whole v
 
 -- the answer, and none on a refusal
 abbrev pub out_text : Option Out → List ℕ

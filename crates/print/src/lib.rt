@@ -5,7 +5,7 @@
 mod writing;
 
 ghost use Rattle.std.specs.Prelude.{◌+◌, ◌≤◌, ◌≡◌, length};
-ghost use Rattle.print.specs.Printed.{value_text, out_text, by_of, by_text, kind_text, op_line, event_line, bad_line, longest};
+ghost use Rattle.print.specs.Printed.{out_text, by_of, by_text, kind_text, op_line, event_line, bad_line, longest};
 ghost use Rattle.print.specs.Explaining.{bind_line, wind_line, top_line, shadowed_line, top_value_line, unbound_line, Puts};
 ghost use Rattle.print.specs.Writing.{Wrote, Adds};
 
@@ -21,7 +21,7 @@ impl Print {
 
 // Each function below that puts a line promises that it is no longer than the longest, since its callers put it where so much is free.
 
-// What a call that is not refused answers: a number, or a value and the number of its decider.
+// What a call that is not refused answers: a number, or a value and the number of its decider. What a binding holds is a number, or none.
 #[derive(Clone, Copy)]
 pub enum Out {
     Number(i32),
@@ -40,19 +40,7 @@ pub struct Report {
 }
 
 impl Pen<'_> {
-    // A value, or none.
-    fn value(&mut self, v: Option<i32>)
-        requires { self.old.at + 11 ≤ longest }
-        ensures adds { Adds self.old (value_text v) self.new }
-        ensures upper_bound { self.new.at ≤ self.old.at + 11 }
-    {
-        match v {
-            None => self.text(b"none"),
-            Some(v) => self.whole(v),
-        }
-    }
-
-    // The answer, or none.
+    // The answer, or what a binding holds; or none.
     fn answer(&mut self, out: Option<Out>)
         requires { self.old.at + 11 ≤ longest }
         ensures adds { Adds self.old (out_text out) self.new }
@@ -128,7 +116,7 @@ pub fn put_bad(line: u32, out: &mut [u8; Print::LINE]) -> usize
 }
 
 // The line of a binding: its number, its variable, the value that it holds or none.
-pub fn put_bind(env: u32, x: u32, v: Option<i32>, out: &mut [u8; Print::LINE]) -> usize
+pub fn put_bind(env: u32, x: u32, v: Option<Out>, out: &mut [u8; Print::LINE]) -> usize
     ensures wrote { Wrote out.old 0 (bind_line env x v) out.new result }
     ensures upper_bound { result ≤ longest }
 {
@@ -136,7 +124,7 @@ pub fn put_bind(env: u32, x: u32, v: Option<i32>, out: &mut [u8; Print::LINE]) -
     pen.field(b"env=", env);
     pen.field(b" bind=", x);
     pen.text(b",");
-    pen.value(v);
+    pen.answer(v);
     pen.text(b"\n");
     pen.at
 }
@@ -166,26 +154,26 @@ pub fn put_top(out: &mut [u8; Print::LINE]) -> usize
 }
 
 // The line of a binding behind the one that decides: its number, and the value that it holds or none.
-pub fn put_shadowed(env: u32, v: Option<i32>, out: &mut [u8; Print::LINE]) -> usize
+pub fn put_shadowed(env: u32, v: Option<Out>, out: &mut [u8; Print::LINE]) -> usize
     ensures wrote { Wrote out.old 0 (shadowed_line env v) out.new result }
     ensures upper_bound { result ≤ longest }
 {
     let mut pen = Pen::new(out);
     pen.field(b"shadowed=", env);
     pen.text(b" value=");
-    pen.value(v);
+    pen.answer(v);
     pen.text(b"\n");
     pen.at
 }
 
 // The line of the top value, or none.
-pub fn put_top_value(v: Option<i32>, out: &mut [u8; Print::LINE]) -> usize
+pub fn put_top_value(v: Option<Out>, out: &mut [u8; Print::LINE]) -> usize
     ensures wrote { Wrote out.old 0 (top_value_line v) out.new result }
     ensures upper_bound { result ≤ longest }
 {
     let mut pen = Pen::new(out);
     pen.text(b"top=");
-    pen.value(v);
+    pen.answer(v);
     pen.text(b"\n");
     pen.at
 }

@@ -2,12 +2,13 @@
 use mathlib.Core.Path.{◌≡◌, ap}
 use mathlib.Core.List.{List, ◌++◌}
 use Prim.Native.Nat.{ℕ}
-use Rattle.std.specs.Prelude.{ℤ, Option, Some, None}
+use Rattle.std.specs.Prelude.{Option, Some, None}
 use Rattle.rules.specs.Tree.{path}
 use Rattle.rules.specs.Why.{binders, shown_at, shadowed_at}
 use Rattle.rules.proofs.Why.{chain_whole}
 use Rattle.layout.specs.View.{view}
 use Rattle.promises.specs.Promises.{at}
+use Rattle.print.specs.declared.Out.{Out}
 use Rattle.print.specs.Explaining.{top_value_line, unbound_line}
 use Rattle.why.specs.declared.explain.Lines.{Lines}
 use Rattle.why.specs.Explained.{held, env_text, shadow_text, joined, found_text, lost_text, stops, Adds, Chained}
@@ -18,7 +19,7 @@ module _ {s : List ℕ} {a : ℕ} {before chain : Lines} {next : ℕ} where
   unfolding lost_text
   lost_added c w = adds_same (ap (λ (m : List ℕ). joined (env_text s) m ++ unbound_line) (chain_whole (path (view s).tree a))) (adds_then c.adds w)
 
-  pub found_added : (x : ℕ) {behind after : Lines} {v : Option ℤ} → Chained s (stops s (Some x)) a before chain next
+  pub found_added : (x : ℕ) {behind after : Lines} {v : Option Out} → Chained s (stops s (Some x)) a before chain next
       → Adds chain (joined (shadow_text s x) (binders (view s).tree.what x (path (view s).tree next))) behind
       → v ≡ held (at s 0 x) → Adds behind (top_value_line v) after → Adds before (found_text s a x) after
   unfolding found_text shown_at shadowed_at

@@ -26,6 +26,7 @@ use Rattle.promises.specs.Tables.{First}
 use Rattle.promises.specs.Promises.{at, damaged_row, variable_row, environment_row, value_row, PeekPromise}
 use Rattle.std.specs.Prelude as prelude
 use Rattle.std.specs.Prelude.{Some, None, Ok, Err}
+use Rattle.print.specs.declared.Out.TheVariants as Out
 use Rattle.why.specs.Explained.{held, found_text, lost_text, why_text}
 
 module _ {s s' : List ℕ} {a x : ℕ} {n : Numbers} (peeked : PeekPromise s a x s' n) where
@@ -141,10 +142,10 @@ module _ {s s' : List ℕ} {x : ℕ} (ok : Sound s) (known : x < vars s) where
       go (inr (u, inr (v, inr (w, inl (e, unbound))))) = sym (ap held unbound)
       go (inr (u, inr (v, inr (w, inr (bound, e))))) = absurd (h e)
 
-  value_there : {n : Numbers} → PeekPromise s 0 x s' n → n.code ≡ 0 → Some n.out ≡ held (at s 0 x)
-  value_there peeked h = let (v, is, has) = peeked.answers.done h in ap Some (ap (λ (m : Numbers). m.out) is) ∙ sym (ap held has)
+  value_there : {n : Numbers} → PeekPromise s 0 x s' n → n.code ≡ 0 → Some (Out.Number n.out) ≡ held (at s 0 x)
+  value_there peeked h = let (v, is, has) = peeked.answers.done h in ap (λ (m : Numbers). Some (Out.Number m.out)) is ∙ sym (ap held has)
 
-  pub top_seen : (v : Seen) → PeekPromise s 0 x s' (numbers (Ok (Value v))) → Some v.value ≡ held (at s 0 x)
+  pub top_seen : (v : Seen) → PeekPromise s 0 x s' (numbers (Ok (Value v))) → Some (Out.Number v.value) ≡ held (at s 0 x)
   unfolding numbers
   top_seen v peeked = value_there peeked refl
 

@@ -1,7 +1,7 @@
 -- The text that explains a value (document 02, W7), from the store as it is now: where the peek found a value, a line for each environment
 -- up to the decider, one for each shadowed binding, one for the top value; where it found none, a line for each environment up to the top,
 -- and `unbound`; else nothing. Which environments these are, the rules say (`Why`). Assumes nothing: these are definitions.
-use Rattle.std.specs.Prelude.{◌≡◌, Bool, false, cond, List, [], ◌∷◌, ◌++◌, ℕ, ◌+◌, ◌*◌, ◌≤◌, eqb, length, ℤ, Option, Some, None}
+use Rattle.std.specs.Prelude.{◌≡◌, Bool, false, cond, List, [], ◌∷◌, ◌++◌, ℕ, ◌+◌, ◌*◌, ◌≤◌, eqb, length, Option, Some, None}
 use Rattle.rules.specs.Tree.{What, blank, top, binding, wind, binds, path}
 use Rattle.rules.specs.Values.{Cell, unbound, value}
 use Rattle.rules.specs.Refusals.{no_value}
@@ -10,6 +10,8 @@ use Rattle.layout.specs.View.{view}
 use Rattle.layout.specs.Made.{IsMade}
 use Rattle.promises.specs.Answers.{Numbers}
 use Rattle.promises.specs.Promises.{at, PeekPromise}
+use Rattle.print.specs.declared.Out.{Out}
+use Rattle.print.specs.declared.Out.TheVariants.{Number}
 use Rattle.print.specs.Printed.{longest}
 use Rattle.print.specs.Explaining.{bind_line, wind_line, top_line, shadowed_line, top_value_line, unbound_line}
 use Rattle.print.specs.Writing.{Wrote}
@@ -17,9 +19,9 @@ use Rattle.why.specs.declared.explain.Lines.{Lines}
 
 -- ---- the lines
 -- a cell as it is printed
-abbrev pub held : Cell → Option ℤ
+abbrev pub held : Cell → Option Out
 held unbound = None
-held (value v) = Some v
+held (value v) = Some (Number v)
 
 -- the environment n, which is w; `own x` is the value of x there, for a binding of x its own value
 abbrev pub env_line : ℕ → What → (ℕ → Cell) → List ℕ

@@ -8,7 +8,7 @@ ghost use Rattle.layout.specs.Records.{vars};
 ghost use Rattle.layout.specs.View.{view};
 ghost use Rattle.layout.specs.Sound.{Sound};
 ghost use Rattle.layout.specs.Made.{IsMade};
-ghost use Rattle.promises.specs.Answers.{telling, numbers_told};
+ghost use Rattle.promises.specs.Answers.{telling, own_cell, numbers_told};
 ghost use Rattle.promises.specs.Promises.{at};
 ghost use Rattle.print.specs.Explaining.{shadowed_line};
 ghost use Rattle.print.specs.Printed.{longest};
@@ -17,7 +17,7 @@ ghost use Rattle.why.specs.Explained.{held, env_line, shadow_text, joined, found
 
 use layout::Store;
 use print::{
-    Print, put_bind, put_line, put_shadowed, put_top, put_top_value, put_unbound, put_wind,
+    Out, Print, put_bind, put_line, put_shadowed, put_top, put_top_value, put_unbound, put_wind,
 };
 use promises::{Answer, Environment, Refusal};
 
@@ -37,15 +37,22 @@ pub(crate) struct Lines<'a> {
 }
 
 // The top value of x, or none.
-fn top_value(s: &[u8], x: u32) -> Option<i32>
+fn top_value(s: &[u8], x: u32) -> Option<Out>
     requires { Sound s.now × (x < vars s.now) }
     ensures { result ≡ held (at s.now 0 x) }
 {
     match store::peek(s, 0, x) {
-        Ok(Answer::Value(seen)) => Some(seen.value),
+        Ok(Answer::Value(seen)) => Some(Out::Number(seen.value)),
         Ok(_) => None,
         Err(_) => None,
     }
+}
+
+// What a binding holds, as it is printed: a number, or none.
+fn held_by(value: Option<i32>) -> Option<Out>
+    ensures { result ≡ held (own_cell value) }
+{
+    value.map(Out::Number)
 }
 
 // The parent; the top stands for its own.
@@ -83,7 +90,7 @@ fn env_line(n: u32, env: Environment, line: &mut [u8; Print::LINE]) -> usize
             variable,
             value,
             ..
-        } => put_bind(n, u32::from(variable), value, line),
+        } => put_bind(n, u32::from(variable), held_by(value), line),
         Environment::Wind {
             prelude,
             postlude,
@@ -147,7 +154,7 @@ impl Lines<'_> {
                 ..
             } if u32::from(variable) == x => {
                 let mut line = [0u8; Print::LINE];
-                let k = put_shadowed(n, value, &mut line);
+                let k = put_shadowed(n, held_by(value), &mut line);
                 self.put(&line[..k]);
             }
             _ => {}

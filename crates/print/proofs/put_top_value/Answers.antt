@@ -6,4 +6,4 @@ use Rattle.print.proofs.put_top_value.Goals as goal
 
 pub returns-clause-wrote : goal.returns-clause-wrote
 unfolding top_value_line
-returns-clause-wrote c = let line = adds_then (adds_then c.text.ensures c.value.ensures.adds) c.text-2.ensures in search rules
+returns-clause-wrote c = let line = adds_then (adds_then c.text.ensures c.answer.ensures.adds) c.text-2.ensures in search rules
