@@ -48,11 +48,16 @@ fn zeros(p: &[u8]) -> bool
     largest == 0
 }
 
-// State 0 and all zero, or state 1.
+// State 0 and all zero, or state 1. By the state first: with the test of all five bytes before it, a store's check took up to twice the
+// time where bindings and winds stand in no order (docs/LOOK-BACK.md).
 fn proper(c: [u8; Store::BARE]) -> bool
     ensures { Says result (ProperCell c) }
 {
-    blank(c) || c[0] == 1
+    match c {
+        [0, ..] => blank(c),
+        [1, ..] => true,
+        _ => false,
+    }
 }
 
 fn blank(c: [u8; Store::BARE]) -> bool
